@@ -1,0 +1,3 @@
+pub mod Clamped
+pub mod Numbers
+pub mod Patches
