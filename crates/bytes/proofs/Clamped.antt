@@ -23,3 +23,9 @@ pub part-within : (bytes : List ℕ) (i n j m : ℕ) → j ≡ min i (length byt
 part-within bytes i n j m e f =
     let s : j + m - j ≡ min n (length (drop j bytes)) = omega (arith, length-drop j bytes) in
     take-within (drop j bytes) n (j + m - j) s ∙ ap (take n) (drop-within bytes i j e)
+
+-- a start that stops at a limit past the end makes no difference
+pub part-capped : (bytes : List ℕ) (i cap n j : ℕ) → j ≡ min i cap → length bytes ≤ cap → part bytes j n ≡ part bytes i n
+part-capped bytes i cap n j e h =
+    ⊎-elim (λ (l : i < cap). let p : j ≡ i = omega arith in ap (λ k. part bytes k n) p)
+    (λ (l : cap ≤ i). ap (take n) (drop-all j bytes (omega arith) ∙ sym (drop-all i bytes (omega arith)))) (cases-lt i cap)

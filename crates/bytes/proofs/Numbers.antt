@@ -29,13 +29,17 @@ part-le bytes i n = omega (arith, length-take n (drop i bytes))
 pub more-lt : (n b i : ℕ) → n < 256 ^ i → b < 256 → n * 256 + b < 256 ^ (i + 1)
 more-lt n b i h k = rw (add-one, pow-suc 256 i) (digits-lt h k)
 
-fits-four : (n i : ℕ) → n < 256 ^ i → i ≤ 4 → n < 2 ^ 32
-fits-four n i h k = lt-of-lt-of-le h (pow-le-pow-right {n = 256} (lit< tt) k)
+wider-lt : (n i j : ℕ) → n < 256 ^ i → i ≤ j → n < 256 ^ j
+wider-lt n i j h k = lt-of-lt-of-le h (pow-le-pow-right {n = 256} (lit< tt) k)
+
+-- what at most a part's bytes spell fits the part's width
+pub part-lt : (bytes items : List ℕ) (at k n i : ℕ) → items ≡ part bytes at k → i ≤ length items → n < 256 ^ i → n < 256 ^ k
+part-lt bytes items at k n i e l h = wider-lt n i k h (omega (arith, ap length e, part-le bytes at k))
 
 -- with one of at most four bytes added, a number fits 32 bits
 pub more-fits : (bytes items : List ℕ) (at : ℕ) (w : Width) (n b i : ℕ) → items ≡ part bytes at (size w) → i < length items → n < 256 ^ i → b < 256 → n * 256 + b < 2 ^ 32
 more-fits bytes items at w n b i e l h k =
-    fits-four (n * 256 + b) (i + 1) (more-lt n b i h k) (omega (arith, ap length e, part-le bytes at (size w), size-le w))
+    wider-lt (n * 256 + b) (i + 1) 4 (more-lt n b i h k) (omega (arith, ap length e, part-le bytes at (size w), size-le w))
 
 pub length-spell : (k n : ℕ) → length (spell k n) ≡ k
 length-spell zero n = refl
@@ -76,3 +80,12 @@ spell-whole (suc k) bytes e h =
 
 pub spell-big : (bytes : List ℕ) → Bytes bytes → spell (length bytes) (big bytes) ≡ bytes
 spell-big bytes h = spell-whole (length bytes) bytes refl h
+
+-- four bytes as `u32::from_be_bytes` has them
+pub big-four : (bytes : List ℕ) → 4 ≤ length bytes
+    → getD bytes 0 0 * 16777216 + getD bytes 1 0 * 65536 + getD bytes 2 0 * 256 + getD bytes 3 0 ≡ big (part bytes 0 4)
+big-four [] h = absurd (omega arith)
+big-four (a ∷ []) h = absurd (omega arith)
+big-four (a ∷ b ∷ []) h = absurd (omega arith)
+big-four (a ∷ b ∷ c ∷ []) h = absurd (omega arith)
+big-four (a ∷ b ∷ c ∷ d ∷ rest) h = omega arith

@@ -1,6 +1,6 @@
 // Parts of a run of bytes, and the numbers in them.
 ghost use mathlib.Core.Path.{_≡_};
-ghost use Prim.Native.Nat.{_+_, _≤_};
+ghost use Prim.Native.Nat.{_+_, _^_, _≤_, _<_};
 ghost use lib.ListN.{length};
 ghost use Rattle.bytes.specs.Parts.{part, patched};
 ghost use Rattle.bytes.specs.Numbers.{big, size, spell};
@@ -37,7 +37,8 @@ pub fn part(bytes: &[u8], at: usize, n: usize) -> &[u8]
 
 // The number that bytes from `at` on spell, most significant byte first.
 pub fn number(bytes: &[u8], at: usize, width: Width) -> u32
-    ensures { λ r. ⌜ r ≡ big (part (now (bytes .entry)) at (size width)) ⌝ }
+    ensures value { λ r. ⌜ r ≡ big (part (now (bytes .entry)) at (size width)) ⌝ }
+    ensures bound { λ r. ⌜ r < 256 ^ size width ⌝ }
 {
     let mut n: u32 = 0;
     for b in part(bytes, at, width.size()) {

@@ -5,7 +5,7 @@ use lib.ListN.{getD}
 use Rattle.std.proofs.shelf.Digits.{number-more}
 use Rattle.std.proofs.shelf.Lists.{take-all}
 use Rattle.bytes.specs.Numbers.{big}
-use Rattle.bytes.proofs.Numbers.{more-lt, more-fits}
+use Rattle.bytes.proofs.Numbers.{more-lt, more-fits, part-lt}
 use Rattle.bytes.proofs.number.Needs as need
 
 pub mul-n : need.mul-n
@@ -18,4 +18,4 @@ pub loop-b-again : need.loop-b-again
 loop-b-again c = (search (needs, number-more), more-lt (c .loop-b .n) _ (c .loop-b .b-index) (c .loop-b .inv .1) (omega arith))
 
 pub returns : need.returns
-returns c = search (needs, take-all)
+returns c = record { value = search (needs, take-all); bound = part-lt (c .args .bytes .now) (c .part-b-items .result .now) (c .args .at) _ (c .loop-b .n) (c .loop-b .b-index) (search needs) (c .loop-b .kept .b-index-end) (c .loop-b .inv .1) }

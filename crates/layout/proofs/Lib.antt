@@ -1,0 +1,5 @@
+pub mod Decided
+pub mod Entries
+pub mod Fitting
+pub mod AllRecords
+pub mod Pages
