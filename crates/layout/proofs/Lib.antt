@@ -1,5 +1,7 @@
 pub mod Decided
 pub mod Entries
 pub mod Fitting
-pub mod AllRecords
-pub mod Pages
+pub mod HeldBytes
+pub mod HeldSide
+pub mod RestsOnHeld
+pub mod Sides

@@ -1,7 +1,5 @@
-pub mod Files
 pub mod Held
-pub mod Listings
 pub mod Pages
-pub mod Refusals
+pub mod Saved
 pub mod Sound
 pub mod Walks

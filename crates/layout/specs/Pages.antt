@@ -2,7 +2,7 @@
 use mathlib.Core.Bool.{cond}
 use mathlib.Core.List.{List, [], _∷_, map}
 use Prim.Native.Nat.{ℕ, _+_, _-_, _*_, _%_}
-use lib.Dec.{leb, ltb}
+use lib.Dec.{eqb, leb, ltb}
 use lib.ListN.{drop}
 use Rattle.std.specs.Iters.{counting}
 use Rattle.std.specs.declared.option.Option.{Option}
@@ -86,3 +86,7 @@ records counter page = map (entryOf page) (savedSlots counter page)
 -- the page of a key in a file of so many pages
 abbrev pub pageOf : ℕ → ℕ → ℕ
 pageOf pages key = 1 + key % (pages - 1)
+
+-- how many of a page's edit numbers are one more than the counter: an opening clears these
+abbrev pub pendingOn : ℕ → List ℕ → ℕ
+pendingOn counter page = cond (eqb (numberOf page A) (counter + 1)) 1 0 + cond (eqb (numberOf page B) (counter + 1)) 1 0

@@ -4,6 +4,7 @@ use mathlib.Core.Logic.{_⊎_}
 use mathlib.Core.List.{List}
 use Prim.Native.Nat.{ℕ, _+_, _≤_, _<_}
 use lib.ListN.{length, getD}
+use Rattle.bytes.specs.Files.{File}
 use Rattle.bytes.specs.Numbers.{big}
 use Rattle.bytes.specs.Parts.{part}
 use Rattle.layout.specs.declared.header.Side.the-variants.{A, B}
@@ -63,11 +64,6 @@ pub record FirstSound (count : ℕ) (page : List ℕ) : Type 0 where
   pub least : 2 ≤ pagesOf page
   pub most : pagesOf page ≤ 4096
   pub there : pagesOf page ≤ count
-
--- some pages of 1,024 bytes, counted from 0
-pub record File : Type 0 where
-  pub count : ℕ
-  pub page : ℕ → List ℕ
 
 -- a file is sound if its first page is read and every other page is sound
 pub record SoundFile (f : File) : Type 0 where

@@ -1,6 +1,6 @@
 // The two headers of a page and their slots.
 ghost use mathlib.Core.Path.{_≡_};
-ghost use Rattle.layout.specs.Pages.{start, headerOf, slotOf, valid};
+ghost use Rattle.layout.specs.Pages.{start, headerOf, slotOf, pendingOn, valid};
 use bytes::Width;
 use bytes::number;
 
@@ -71,4 +71,15 @@ pub fn valid(page: &[u8], counter: u32) -> Option<Header>
     } else {
         None
     }
+}
+
+// How many edit numbers of a page are one more than the counter.
+pub fn pending(page: &[u8], counter: u32) -> usize
+    ensures { λ r. ⌜ r ≡ pendingOn counter (now (page .entry)) ⌝ }
+{
+    // one more than the counter may not fit its type
+    let next = counter as u64 + 1;
+    let a = if Header::read(page, Side::A).number as u64 == next { 1 } else { 0 };
+    let b = if Header::read(page, Side::B).number as u64 == next { 1 } else { 0 };
+    a + b
 }

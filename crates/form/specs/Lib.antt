@@ -1,0 +1,4 @@
+pub mod Cues
+pub mod Fields
+pub mod Ranges
+pub mod Stills

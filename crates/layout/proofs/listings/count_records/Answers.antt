@@ -1,9 +1,0 @@
-use native.Mathlib.Omega.{arith}
-use Rattle.layout.proofs.AllRecords.{count-more}
-use Rattle.layout.proofs.listings.count_records.Needs as need
-
-pub loop-q-again : need.loop-q-again
-loop-q-again c =
-    (count-more (c .args .bytes .now) (c .args .first .counter) (c .loop-q .q) (c .loop-q .n) (c .count-on .result) (c .page-at .result .now) (omega arith) (c .loop-q .inv .0)
-      (c .page-at .ensures) (c .count-on .ensures),
-     omega (arith, c .loop-q .inv .1))
