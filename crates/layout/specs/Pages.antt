@@ -5,6 +5,7 @@ use Prim.Native.Nat.{ℕ, _+_, _-_, _*_, _%_}
 use lib.Dec.{eqb, leb, ltb}
 use lib.ListN.{drop}
 use Rattle.std.specs.Iters.{counting}
+use Rattle.std.specs.Options.{mapped}
 use Rattle.std.specs.declared.option.Option.{Option}
 use Rattle.std.specs.declared.option.Option.the-variants.{Some, None}
 use Rattle.bytes.specs.Numbers.{big}
@@ -49,11 +50,16 @@ slots page h = map (slotOf page (h .side)) (counting 0 (h .count))
 abbrev pub rank : ℕ → ℕ → ℕ
 rank counter n = cond (leb n counter) n 0
 
--- the valid header: the one whose number counts and is the greater
+-- of the numbers of headers A and B, the side of the one that counts and is the greater
+abbrev pub sideOf : ℕ → ℕ → ℕ → Option Side
+sideOf counter a b = cond (ltb (rank counter b) (rank counter a)) (Some A) (cond (ltb (rank counter a) (rank counter b)) (Some B) None)
+
+abbrev pub validSide : ℕ → List ℕ → Option Side
+validSide counter page = sideOf counter (numberOf page A) (numberOf page B)
+
+-- the valid header
 abbrev pub valid : ℕ → List ℕ → Option Header
-valid counter page =
-    cond (ltb (rank counter (numberOf page B)) (rank counter (numberOf page A))) (Some (headerOf page A))
-    (cond (ltb (rank counter (numberOf page A)) (rank counter (numberOf page B))) (Some (headerOf page B)) None)
+valid counter page = mapped (headerOf page) (validSide counter page)
 
 -- the slots of the page's records: none if no header is valid
 abbrev pub slotsBy : List ℕ → Option Header → List Slot

@@ -10,17 +10,16 @@ use Rattle.std.specs.declared.option.Option.{Option}
 use Rattle.std.specs.declared.option.Option.the-variants.{Some, None}
 use Rattle.layout.specs.declared.header.Side.{Side}
 use Rattle.layout.specs.declared.header.Side.the-variants.{A, B}
-use Rattle.layout.specs.Pages.{entryOf, headerOf, pendingOn, records, slotsBy, valid}
+use Rattle.layout.specs.Pages.{entryOf, headerOf, pendingOn, records, sideOf, slotsBy, valid}
 use Rattle.form.specs.declared.cue.Cue.{Cue}
 use Rattle.form.specs.declared.still.Still.{Still}
 use Rattle.form.specs.Cues.{cueMade}
 use Rattle.form.specs.Stills.{stillMade}
-use Rattle.layout.proofs.Sides.{sideOf, valid-is}
 use Rattle.worked.specs.Table.{Numbers, Every-case}
 
 -- the valid header of a page, by its numbers
 by-numbers : (page : List ℕ) (a b counter : ℕ) → Numbers a b page → valid counter page ≡ mapped (headerOf page) (sideOf counter a b)
-by-numbers page a b counter n = valid-is counter page ∙ (λ i. mapped (headerOf page) (sideOf counter (n .0 i) (n .1 i)))
+by-numbers page a b counter n = λ i. mapped (headerOf page) (sideOf counter (n .0 i) (n .1 i))
 
 -- the numbers to be cleared, by the page's numbers
 pending-by : (page : List ℕ) (a b counter : ℕ) → Numbers a b page
