@@ -4,3 +4,4 @@ pub mod Numbers
 pub mod Patches
 pub mod Puts
 pub mod Spelled
+pub mod Words

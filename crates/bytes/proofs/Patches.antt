@@ -45,7 +45,7 @@ module _ (b y : List ℕ) (s : ℕ) (fits : s + length y ≤ length b) where
   part-beside i n h =
       part-agrees (patched b s y) b i n length-patched (λ k l m. patched-beside k (⊎-elim (λ e. inl (omega arith)) (λ e. inr (omega arith)) h))
 
-length-part : (b : List ℕ) (i n : ℕ) → i + n ≤ length b → length (part b i n) ≡ n
+pub length-part : (b : List ℕ) (i n : ℕ) → i + n ≤ length b → length (part b i n) ≡ n
 length-part b i n h = length-take-le n (drop i b) (omega (arith, length-drop i b))
 
 -- a part that holds all that was put in

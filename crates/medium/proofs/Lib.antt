@@ -1,0 +1,4 @@
+pub mod Cutting
+pub mod Partial
+pub mod Runs
+pub mod Writes

@@ -1,0 +1,4 @@
+pub mod Cuts
+pub mod Flat
+pub mod Meaning
+pub mod Trials
