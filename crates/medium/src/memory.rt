@@ -1,8 +1,14 @@
 // A medium over lent bytes.
 ghost use mathlib.Core.Path.{_≡_};
 ghost use mathlib.Core.Bool.{false};
+ghost use Prim.Native.Nat.{_+_, _*_};
 ghost use denote.Ref.{now};
+ghost use Rattle.std.specs.Results.{Cases};
+ghost use Rattle.std.specs.declared.result.Result.the-variants.{Ok};
+ghost use Rattle.bytes.specs.Parts.{patched};
+ghost use Rattle.medium.specs.declared.fault.MediumFault.the-variants.{BadRun};
 ghost use Rattle.medium.specs.Flat.{flat, flat-sized, flat-shows};
+ghost use Rattle.medium.specs.Meaning.{Settled, Wrote};
 use super::fault::MediumFault;
 use super::medium::Medium;
 use super::medium::good_run;
@@ -54,7 +60,10 @@ pub impl Medium for Memory<'_> as MemoryMedium {
         Ok(())
     }
 
-    fn write(&mut self, page: usize, at: usize, bytes: &[u8]) -> Result<(), MediumFault> {
+    fn write(&mut self, page: usize, at: usize, bytes: &[u8]) -> Result<(), MediumFault>
+        ensures rule { λ r. ⌜ Wrote (flat false (now (now (self .entry) .bytes))) (flat false (now (now (self .exit) .bytes))) page at (now (bytes .entry)) r ⌝ }
+        ensures exactly { λ r. ⌜ Cases r (λ _. now (now (self .exit) .bytes) ≡ patched (now (now (self .entry) .bytes)) (page * 1024 + at) (now (bytes .entry))) (λ e. (e ≡ BadRun) × (now (now (self .exit) .bytes) ≡ now (now (self .entry) .bytes))) ⌝ }
+    {
         if !good_run(self.bytes.len() / 1024, page, at, bytes.len()) {
             return Err(MediumFault::BadRun);
         }
@@ -62,7 +71,10 @@ pub impl Medium for Memory<'_> as MemoryMedium {
         Ok(())
     }
 
-    fn settle(&mut self) -> Result<(), MediumFault> {
+    fn settle(&mut self) -> Result<(), MediumFault>
+        ensures rule { λ r. ⌜ Settled (flat false (now (now (self .entry) .bytes))) (flat false (now (now (self .exit) .bytes))) r ⌝ }
+        ensures exactly { λ r. ⌜ (r ≡ Ok tt) × (now (now (self .exit) .bytes) ≡ now (now (self .entry) .bytes)) ⌝ }
+    {
         Ok(())
     }
 }
