@@ -1,3 +1,4 @@
+pub mod Alike
 pub mod Decided
 pub mod Entries
 pub mod Fitting

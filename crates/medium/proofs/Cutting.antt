@@ -5,7 +5,7 @@ use mathlib.Core.List.{List}
 use Prim.Native.Nat.{ℕ, _<_}
 use native.Mathlib.Omega.{arith}
 use Rattle.std.specs.declared.result.Result.the-variants.{Ok}
-use Rattle.bytes.proofs.Words.{same-words}
+use Rattle.bytes.proofs.Words.{words-same}
 use Rattle.medium.specs.Cuts.{CutMedium, LeavesShown, shownFile}
 use Rattle.medium.specs.Flat.{flat, flat-sized}
 use Rattle.medium.specs.Meaning.{Meaning, Settled, Settles, Sized}
@@ -21,7 +21,7 @@ cut-flat t b = record {
 -- where only what is shown is possible, it is what every cut leaves
 pub settled-leaves : (m : Meaning) → Sized m → Settles m → LeavesShown m
 settled-leaves m sized only f c p l =
-    same-words (f .page p) (m .shown p) (c .sized p l) (sized .full p l) (λ k h. only p k _ (c .possible p k l h))
+    words-same 256 (f .page p) (m .shown p) (c .sized p l) (sized .full p l) (λ k h. only p k _ (c .possible p k l h))
 
 -- a settled medium cut twice shows what it showed before
 pub settled-cuts : (m n o q : Meaning) → Settled m n (Ok tt) → Sized n → CutMedium n o → Sized o → CutMedium o q

@@ -2,9 +2,15 @@
 use mathlib.Core.Path.{_≡_}
 use mathlib.Core.Bool.{true, _&&_}
 use mathlib.Core.Logic.{_⊎_, inl, inr, ⊎-elim}
+use mathlib.Core.List.{List}
 use Prim.Native.Nat.{ℕ, _+_, _*_, _%_, _≤_, _<_}
+use native.Mathlib.Omega.{arith}
 use lib.Dec.{eqb, leb, ltb}
+use lib.ListN.{length}
 use Rattle.std.proofs.shelf.Tests.{and-parts, cases-lt, ltb-true, leb-true, eqb-true}
+use Rattle.bytes.specs.Files.{word}
+use Rattle.bytes.specs.Parts.{patched}
+use Rattle.bytes.proofs.Patches.{part-beside}
 use Rattle.medium.specs.Meaning.{InRun, good}
 
 pub record Good (pages p s n : ℕ) : Type 0 where
@@ -27,6 +33,12 @@ good-tells pages p s n e =
       whole = eqb-true (n % 4) 0 (d .0);
       room = leb-true (s + n) 1024 (d .1)
     }
+
+-- words of a page with a run of whole words put in: those of the run, and the others
+pub word-beside : (page y : List ℕ) (s k : ℕ) → s % 4 ≡ 0 → length y % 4 ≡ 0 → s + length y ≤ length page → (4 * k < s) ⊎ (s + length y ≤ 4 * k)
+    → word (patched page s y) k ≡ word page k
+word-beside page y s k start whole room side =
+    part-beside page y s room (4 * k) 4 (⊎-elim (λ l. inl (omega arith)) (λ l. inr (omega arith)) side)
 
 -- whether a word lies in a run
 pub in-run : (s n k : ℕ) → InRun s n k ⊎ ((4 * k < s) ⊎ (s + n ≤ 4 * k))

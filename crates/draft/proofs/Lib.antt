@@ -1,0 +1,5 @@
+pub mod Blocked
+pub mod Changed
+pub mod Headers
+pub mod Loaded
+pub mod Ordered

@@ -1,0 +1,14 @@
+pub mod Changed
+pub mod Cleared
+pub mod Fitted
+pub mod Headers
+pub mod Nearby
+pub mod Placed
+pub mod Rewritten
+pub mod Rising
+pub mod Rooms
+pub mod Sided
+pub mod Stages
+pub mod Unsaved
+pub mod Words
+pub mod Written

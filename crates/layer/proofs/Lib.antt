@@ -1,0 +1,4 @@
+pub mod Descents
+pub mod Images
+pub mod Overlays
+pub mod Rooms

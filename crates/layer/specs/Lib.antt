@@ -1,0 +1,4 @@
+pub mod Below
+pub mod Distinct
+pub mod Holds
+pub mod Windows
