@@ -1,6 +1,9 @@
 // Memory for the slots of a page that is being changed.
 ghost use Prim.Native.Nat.{_≤_};
-ghost use Rattle.std.specs.Of.Vec.{vec-cap};
+ghost use mathlib.Core.Path.{_≡_};
+ghost use mathlib.Core.List.{[]};
+ghost use Rattle.std.specs.Of.Vec.{vec-cap, vec-items};
+ghost use Rattle.std.specs.Vec.{made};
 use layout::Slot;
 use std::alloc::AllocError;
 use std::alloc::Global;
@@ -17,7 +20,9 @@ pub struct Scratch {
 
 impl Scratch {
     // The memory, or a refusal where there is none.
-    pub fn new(heap: Global) -> Result<Scratch, AllocError> {
+    pub fn new(heap: Global) -> Result<Scratch, AllocError>
+        ensures { λ r. ⌜ made r (λ s. (vec-items (s .draft) ≡ []) × (vec-items (s .busy) ≡ [])) ⌝ }
+    {
         let draft = Vec::with_capacity(heap, 24)?;
         let busy = Vec::with_capacity(heap, 48)?;
         Ok(Scratch { draft, busy })

@@ -14,7 +14,7 @@ pub struct Held {
 }
 
 // Puts bytes in place of those of an image from `at` on.
-pub fn patch_image(image: &mut [u8; 1024], at: usize, bytes: &[u8])
+pub(super) fn patch_image(image: &mut [u8; 1024], at: usize, bytes: &[u8])
     requires { ⌜ at + length (now bytes) ≤ 1024 ⌝ }
     ensures full { λ _. ⌜ length (now (image .exit)) ≡ 1024 ⌝ }
     ensures after { λ _. ⌜ now (image .exit) ≡ patched (now (image .entry)) at (now (bytes .entry)) ⌝ }

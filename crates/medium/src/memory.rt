@@ -31,8 +31,8 @@ impl<'a> Memory<'a> {
     pub fn into_bytes(self) -> &'a mut [u8]
         ensures { λ r. ⌜ now r ≡ now (self .entry .bytes) ⌝ }
     {
-        let Memory { bytes } = self;
-        bytes
+        let Memory { bytes: lent } = self;
+        lent
     }
 }
 
@@ -75,6 +75,7 @@ pub impl Medium for Memory<'_> as MemoryMedium {
         ensures rule { λ r. ⌜ Settled (flat false (now (now (self .entry) .bytes))) (flat false (now (now (self .exit) .bytes))) r ⌝ }
         ensures exactly { λ r. ⌜ (r ≡ Ok tt) × (now (now (self .exit) .bytes) ≡ now (now (self .entry) .bytes)) ⌝ }
     {
+        // nothing is ever on its way
         Ok(())
     }
 }
