@@ -1,0 +1,4 @@
+pub mod Adding
+pub mod Loading
+pub mod OpenWays
+pub mod Sweeps

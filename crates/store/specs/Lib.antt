@@ -1,0 +1,6 @@
+pub mod Access
+pub mod Clearing
+pub mod Opening
+pub mod Opens
+pub mod Refusals
+pub mod Touches
