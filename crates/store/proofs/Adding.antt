@@ -66,3 +66,13 @@ pub inserted-is : (p at : ℕ) (qs rs : List ℕ) (there ok : Bool) → there �
     → rs ≡ cond ok (take at qs ++ p ∷ drop at qs) qs → rs ≡ added p qs
 inserted-is p at qs rs true ok e b o is = absurd (true≢false e)
 inserted-is p at qs rs false ok e b o is = is ∙ cond-true ok (take at qs ++ p ∷ drop at qs) qs o ∙ b .1
+
+-- at most one page more
+pub length-added : (p : ℕ) (qs : List ℕ) → length (added p qs) ≤ length qs + 1
+length-added p [] = omega arith
+length-added p (q ∷ qs) = go (length-added p qs) (eqb p q) (ltb p q)
+  where
+    go : length (added p qs) ≤ length qs + 1 → (x y : Bool) → length (cond x (q ∷ qs) (cond y (p ∷ q ∷ qs) (q ∷ added p qs))) ≤ length (q ∷ qs) + 1
+    go h true y = omega arith
+    go h false true = omega arith
+    go h false false = omega arith

@@ -1,5 +1,8 @@
 pub mod Access
 pub mod Clearing
+pub mod Edits
+pub mod Ends
+pub mod Looks
 pub mod Opening
 pub mod Opens
 pub mod Refusals

@@ -28,3 +28,10 @@ pub struct Opened {
     pub pages: usize,
     pub cleared: usize,
 }
+
+// Where a value lies in the work page.
+#[derive(Clone, Copy)]
+pub struct Place {
+    pub at: usize,
+    pub length: usize,
+}

@@ -1,4 +1,3 @@
-use borrow.Author.Needs.{needs}
 use Rattle.draft.proofs.Headers.{record-is}
 use Rattle.draft.proofs.write.write_record.Needs as need
 
