@@ -1,4 +1,6 @@
 // Uses of a store, the book of a use, and the theorem that no cut betrays it.
+#![tactic(auto)]
+
 mod call;
 mod ends;
 mod make;

@@ -1,4 +1,6 @@
 // Lists the records of a show file that comes on standard input.
+#![tactic(auto)]
+
 mod list;
 #[cfg(test)]
 mod tests;

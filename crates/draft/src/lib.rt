@@ -1,4 +1,6 @@
 // Changing a page: the draft header, the place of a record, and the page image that a change writes.
+#![tactic(auto)]
+
 mod changes;
 mod header;
 mod load;

@@ -1,4 +1,6 @@
 // Reading a show file whose bytes are all at hand.
+#![tactic(auto)]
+
 mod files;
 mod listing;
 mod listings;

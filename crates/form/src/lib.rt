@@ -1,4 +1,6 @@
 // Record forms: how values are put down as bytes, and read again.
+#![tactic(auto)]
+
 mod cue;
 mod cues;
 mod field;

@@ -1,4 +1,6 @@
 // What changes keep of a page: the laws on which the store's safety rests.
+#![tactic(auto)]
+
 ghost use Rattle.std.specs.Prelude.{◌≡◌};
 ghost use Rattle.guard.specs.Guard.{Guards};
 ghost use Rattle.guard.specs.Clears.{Clears};

@@ -1,4 +1,6 @@
 // Layers over any medium, each a medium again.
+#![tactic(auto)]
+
 mod held;
 mod holding;
 mod holdings;

@@ -1,4 +1,6 @@
 // The page layout of a show file, and the rule by which it is read.
+#![tactic(auto)]
+
 mod first;
 mod firsts;
 mod header;

@@ -1,4 +1,6 @@
 // Page media: what one is, two of them, and what a cut leaves.
+#![tactic(auto)]
+
 mod cut;
 mod fault;
 mod laws;

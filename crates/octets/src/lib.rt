@@ -1,4 +1,6 @@
 // Parts of a run of bytes, and the numbers in them.
+#![tactic(auto)]
+
 ghost use Rattle.std.specs.Prelude.{◌≡◌, ◌+◌, ◌^◌, ◌<◌, ◌≤◌, length};
 ghost use Rattle.octets.specs.Parts.{part, patched};
 ghost use Rattle.octets.specs.Numbers.{big, size, spell};

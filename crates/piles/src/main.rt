@@ -1,4 +1,6 @@
 // Runs a fixed list of raw calls on a pile of layers, stops it in the middle, cuts it, and prints what is there before and after.
+#![tactic(auto)]
+
 mod calls;
 #[cfg(test)]
 mod tests;

@@ -1,4 +1,6 @@
 // Scripts of calls.
+#![tactic(auto)]
+
 mod calls;
 mod fault;
 mod lines;

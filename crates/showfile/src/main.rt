@@ -1,4 +1,6 @@
 // Runs a script of calls that comes on standard input, and prints one line for each.
+#![tactic(auto)]
+
 use script::parse;
 use stage::perform;
 use std::io::{Read, Write};

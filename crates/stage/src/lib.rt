@@ -1,4 +1,6 @@
 // Runs scripts of calls, and tells what each call answered.
+#![tactic(auto)]
+
 mod lend;
 mod piles;
 mod steps;

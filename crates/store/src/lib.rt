@@ -1,4 +1,6 @@
 // The store: cues in a show file that survive the switch at the wall.
+#![tactic(auto)]
+
 mod access;
 mod change;
 mod changes;

@@ -1,4 +1,6 @@
 // How bytes and record values are shown as text.
+#![tactic(auto)]
+
 ghost use Rattle.std.specs.Prelude.{◌≡◌, ◌<◌, Some};
 ghost use Rattle.text.specs.Digits.{hex_digit};
 ghost use Rattle.text.specs.Texts.{hex_text, value_text};

@@ -1,4 +1,6 @@
 // Worked cases: what small files and values read as, proved in one table and run as tests.
+#![tactic(auto)]
+
 mod table;
 
 pub use table::worked_cases;

@@ -1,4 +1,6 @@
 // Small uses of a store, run as tests; and what may be done with a slip, proved.
+#![tactic(auto)]
+
 mod slips;
 
 pub use slips::{refused_then_abandoned, saved_twice_with_two_slips};

@@ -5,11 +5,11 @@ use Rattle.octets.specs.Numbers.{big}
 use Rattle.octets.proofs.Numbers.{more_lt, more_fits, part_lt}
 use Rattle.octets.proofs.number.Goals as goal
 
-pub overflow-mul-n : goal.overflow-mul-n
-overflow-mul-n c = omega (arith, more_fits c.args.bytes.now c.part-b-items.result.now c.args.at c.args.width c.loop-b.n 0 c.loop-b.b-index (search rules) c.loop-b-test.true c.loop-b.invariant.1 (omega arith))
+pub overflow_mul-n : goal.overflow_mul-n
+overflow_mul-n c = omega (arith, more_fits c.args.bytes.now c.part-b-items.result.now c.args.at c.args.width c.loop-b.n 0 c.loop-b.b-index (search rules) c.loop-b-test.true c.loop-b.invariant.1 (omega arith))
 
-pub overflow-add-n : goal.overflow-add-n
-overflow-add-n c = omega (arith, more_fits c.args.bytes.now c.part-b-items.result.now c.args.at c.args.width c.loop-b.n (get_or c.part-b-items.result.now c.loop-b.b-index 0) c.loop-b.b-index (search rules) c.loop-b-test.true c.loop-b.invariant.1 (omega arith))
+pub overflow_add-n : goal.overflow_add-n
+overflow_add-n c = omega (arith, more_fits c.args.bytes.now c.part-b-items.result.now c.args.at c.args.width c.loop-b.n (get_or c.part-b-items.result.now c.loop-b.b-index 0) c.loop-b.b-index (search rules) c.loop-b-test.true c.loop-b.invariant.1 (omega arith))
 
 pub loop-b-preserved : goal.loop-b-preserved
 loop-b-preserved c = (search (rules, number_more), more_lt c.loop-b.n _ c.loop-b.b-index c.loop-b.invariant.1 (omega arith))

@@ -9,12 +9,12 @@ pub loop-bit-init : goal.loop-bit-init
 loop-bit-init c = search (rules, read_none)
 
 pub loop-bit-preserved : goal.loop-bit-preserved
-loop-bit-preserved c = ((read_at _ _ _ _ _ c.loop-bit.invariant.0 c.in-ok-number.ensures).within, sym (read_more _ _ _ c.loop-bit.left _ _ c.loop-bit.values _ (c.requires.0 ∙ sym c.loop-bit.auto.values) c.loop-bit-test.true c.in-ok-number.ensures) ∙ c.loop-bit.invariant.1)
+loop-bit-preserved c = ((read_at _ _ _ _ _ c.loop-bit.invariant.0 c.in_ok-number.ensures).within, sym (read_more _ _ _ c.loop-bit.left _ _ c.loop-bit.values _ (c.requires.0 ∙ sym c.loop-bit.auto.values) c.loop-bit-test.true c.in_ok-number.ensures) ∙ c.loop-bit.invariant.1)
 
-pub returns-in-err-number : goal.returns-in-err-number
-returns-in-err-number c =
-    let p = err_from_is_err_and c.from-residual.result c.from-residual.ensures.1 in
-    rw (p.1, p.2) (sym c.loop-bit.invariant.1 ∙ read_bad _ _ _ c.loop-bit.left _ _ _ _ c.loop-bit-test.true c.in-err-number.ensures)
+pub returns-in_err-number : goal.returns-in_err-number
+returns-in_err-number c =
+    let p = err_from_is_err_and c.from_residual.result c.from_residual.ensures.1 in
+    rw (p.1, p.2) (sym c.loop-bit.invariant.1 ∙ read_bad _ _ _ c.loop-bit.left _ _ _ _ c.loop-bit-test.true c.in_err-number.ensures)
 
 pub returns-then-at-value : goal.returns-then-at-value
 returns-then-at-value c = sym c.loop-bit.invariant.1 ∙ read_all _ _ _ _ _ c.loop-bit.values false (c.requires.0 ∙ sym c.loop-bit.auto.values) c.loop-bit-test.false (sym (ne_eqb _ _ c.if-at-value.true))

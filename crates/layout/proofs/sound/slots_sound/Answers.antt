@@ -8,9 +8,9 @@ pub returns-then-header-gt24 : goal.returns-then-header-gt24
 returns-then-header-gt24 c =
     fails (λ f. omega (arith, few_from c.args.first.pages c.args.q c.args.page.now c.args.header f))
 
-pub returns-then-not-slot-fits : goal.returns-then-not-slot-fits
-returns-then-not-slot-fits c =
-    fails (λ f. not_from_Decides c.slot-fits.result c.slot-fits.ensures (search rules)
+pub returns-then-not-slot_fits : goal.returns-then-not-slot_fits
+returns-then-not-slot_fits c =
+    fails (λ f. not_from_Decides c.slot_fits.result c.slot_fits.ensures (search rules)
     (slot_from c.args.first.pages c.args.q c.args.page.now c.args.header f c.loop-k.k c.loop-k-test.true))
 
 pub returns : goal.returns

@@ -5,9 +5,9 @@ use Rattle.form.proofs.cues.CueDisplay.fmt.Goals as goal
 pub returns-clause-writes : goal.returns-clause-writes
 returns-clause-writes g c = λ plain ok.
     let took = g.W.Write.write_str_gives in
-    let name = c.in-ok-write-str.ensures.writes plain refl in
-    let start = c.in-ok-show-field.ensures name.plain refl in
-    let projector = c.in-ok-show-field-2.ensures start.plain refl in
-    let level = c.in-ok-show-field-3.ensures projector.plain refl in
-    let fade = c.show-field-4.ensures level.plain ok in
+    let name = c.in_ok-write_str.ensures.writes plain refl in
+    let start = c.in_ok-show_field.ensures name.plain refl in
+    let projector = c.in_ok-show_field-2.ensures start.plain refl in
+    let level = c.in_ok-show_field-3.ensures projector.plain refl in
+    let fade = c.show_field-4.ensures level.plain ok in
     has_written_append took _ _ _ _ _ (has_written_append took _ _ _ _ _ (has_written_append took _ _ _ _ _ (has_written_append took _ _ _ _ _ name start) projector) level) fade

@@ -3,4 +3,4 @@ use Rattle.form.specs.Listings.{cue_read}
 use Rattle.form.proofs.cues.CueRecordForm.read.Goals as goal
 
 pub returns : goal.returns
-returns c = let e = c.in-ok-read-fields.ensures in search (rules, cue_read)
+returns c = let e = c.in_ok-read_fields.ensures in search (rules, cue_read)

@@ -5,12 +5,12 @@ use Rattle.octets.proofs.Numbers.{big_four}
 use Rattle.layout.proofs.Entries.{entry_is}
 use Rattle.layout.proofs.record.Record.read.Goals as goal
 
-pub returns-in-default : goal.returns-in-default
-returns-in-default c =
+pub returns-in_default : goal.returns-in_default
+returns-in_default c =
     entry_is c.args.page.now c.part-bytes.result.now _ c.args.slot _ (search rules) (search rules)
     (sym (drop_all 4 c.part-bytes.result.now (omega (arith, ltb-true))))
 
 pub returns : goal.returns
 returns c =
     entry_is c.args.page.now c.part-bytes.result.now _ c.args.slot _ (search rules)
-    (c.from-be-bytes.ensures ∙ big_four c.part-bytes.result.now (omega (arith, ltb-false))) (take_rest c.part-bytes.result.now 4)
+    (c.from_be_bytes.ensures ∙ big_four c.part-bytes.result.now (omega (arith, ltb-false))) (take_rest c.part-bytes.result.now 4)

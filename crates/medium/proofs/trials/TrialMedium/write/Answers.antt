@@ -4,11 +4,11 @@ use Rattle.octets.specs.Parts.{patched}
 use Rattle.medium.proofs.Writes.{wrote_flat, stopped_flat}
 use Rattle.medium.proofs.trials.TrialMedium.write.Goals as goal
 
-pub returns-then-stops-now : goal.returns-then-stops-now
-returns-then-stops-now c =
-    let g = sym c.good_run.ensures ∙ c.if-not-good-run.false in
-    let counts = c.if-stops-now.ensures.counts in
-    let partly = simp (c.stops-now.ensures.keeps.0, c.stops-now.ensures.keeps.1) at c.patch-partly.ensures in
+pub returns-then-stops_now : goal.returns-then-stops_now
+returns-then-stops_now c =
+    let g = sym c.good_run.ensures ∙ c.if-not-good_run.false in
+    let counts = c.if-stops_now.ensures.counts in
+    let partly = simp (c.stops_now.ensures.keeps.0, c.stops_now.ensures.keeps.1) at c.patch_partly.ensures in
     record {
       rule = (g, counts.2, search (rules, stopped_flat), λ on. absurd (both_ways _ c.if-self.false on));
       exactly = search rules;
@@ -16,7 +16,7 @@ returns-then-stops-now c =
 
 pub returns : goal.returns
 returns c =
-    let g = sym c.good_run.ensures ∙ c.if-not-good-run.false in
-    let counts = c.if-stops-now.ensures.counts in
-    let put = c.patch.ensures ∙ ap (λ b. patched b (c.args.page * 1024 + c.args.at) c.args.bytes.now) c.stops-now.ensures.keeps.0 in
+    let g = sym c.good_run.ensures ∙ c.if-not-good_run.false in
+    let counts = c.if-stops_now.ensures.counts in
+    let put = c.patch.ensures ∙ ap (λ b. patched b (c.args.page * 1024 + c.args.at) c.args.bytes.now) c.stops_now.ensures.keeps.0 in
     record { rule = search (rules, wrote_flat); exactly = search rules }
