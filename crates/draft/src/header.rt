@@ -4,8 +4,8 @@ ghost use Rattle.std.specs.List.{flat_map};
 ghost use Rattle.octets.specs.Parts.{patched};
 ghost use Rattle.draft.specs.Images.{slot_bytes, with_header};
 
-use octets::{Width, write_number};
 use layout::{Side, Slot};
+use octets::{Width, write_number};
 
 // Writes a slot from byte `at` on.
 fn write_slot(page: &mut [u8], at: usize, slot: Slot)

@@ -5,8 +5,8 @@ ghost use Rattle.file.specs.Files.{Opens, Lowest, pending_in};
 ghost use Rattle.file.specs.Refusals.{refusal_number, refusal_page};
 
 use super::refusal::FileRefusal;
-use octets::part;
 use layout::{FirstPage, is_sound, pending};
+use octets::part;
 
 impl FileRefusal {
     // The number by which it is known.

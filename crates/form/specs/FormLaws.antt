@@ -63,6 +63,12 @@ four_is (a ∷ b ∷ c ∷ []) n = absurd (omega arith)
 four_is (a ∷ b ∷ c ∷ d ∷ []) n = refl
 four_is (a ∷ b ∷ c ∷ d ∷ x ∷ xs) n = absurd (omega arith)
 
+-- four fields that were read are in range
+pub read_fit : (top : ℕ) (fs : List Field) → length fs ≡ 4 → (b : List ℕ) (vs : List (Option ℕ)) → decoded top fs b ≡ Ok vs → all_fit fs (four vs) ≡ true
+read_fit top fs n b vs e =
+    let fit = decoded_fit top fs b vs e in
+    ap (all_fit fs) (four_is vs (sym (fit_length fs vs fit) ∙ n)) ∙ fit
+
 module _ {V : Type 0} (fs : List Field) (values : V → List (Option ℕ)) (of : List (Option ℕ) → Option V) (listed : Listed fs values of) (top : ℕ) where
   pub short_is : length fs ≤ 8 → (v : V) → length (encoded top fs (values v)) ≤ 200
   short_is few v = omega (arith, fields_le fs (values v))

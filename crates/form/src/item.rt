@@ -35,8 +35,8 @@ impl Forms for Item {
     ghost short = { Prim.search rules };
 
     ghost there = { elim [
-      | Cue c ↦ ap (wrapped Cue) (there-is cueFields cueValues cueOf cue-listed 4 refl c)
-      | Still s ↦ ap (wrapped Still) (there-is stillFields stillValues still_of still-listed 8 refl s)
+      | Cue c ↦ ap (wrapped Cue) (there_is cue_fields cue_values cue_of cue_listed 4 refl c)
+      | Still s ↦ ap (wrapped Still) (there_is still_fields still_values still_of still_listed 8 refl s)
     ] };
 
     ghost back = { elim [

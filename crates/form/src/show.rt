@@ -10,7 +10,7 @@ pub(super) fn show_field<W: fmt::Write>(
     name: &str,
     value: Option<u32>,
 ) -> fmt::Result
-    ensures { WritesOnOk write_str_gives f.old result (field_text name.now value) f.new }
+    ensures { WritesOnOk W.write_str_gives f.old result (field_text name.now value) f.new }
 {
     match value {
         Some(n) => write!(f, " {name}={n}"),

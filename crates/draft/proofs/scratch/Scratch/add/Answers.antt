@@ -6,17 +6,17 @@ use Rattle.draft.specs.Places.{Highest}
 use Rattle.draft.proofs.Changed.{placed_is}
 use Rattle.draft.proofs.scratch.Scratch.add.Goals as goal
 
-pub returns-in-default : goal.returns-in-default
-returns-in-default c =
-    (subst (λ ss. Highest ss (4 + length c.args.value.now) None) (c.deref.ensures.value ∙ c.load-busy.ensures.items) c.in-default.ensures, refl)
+pub returns-in_default : goal.returns-in_default
+returns-in_default c =
+    (subst (λ ss. Highest ss (4 + length c.args.value.now) None) (c.deref.ensures.value ∙ c.load_busy.ensures.items) c.in_default.ensures, refl)
 
 pub returns : goal.returns
 returns c = (
   c.in-Some.at,
-  subst (λ ss. Highest ss (4 + length c.args.value.now) (Some c.in-Some.at)) (c.deref.ensures.value ∙ c.load-busy.ensures.items) c.in-Some.ensures,
-  placed_is c.args.counter c.args.page.now c.write-header.new.page c.args.key c.args.value.now _ c.target-side.result
+  subst (λ ss. Highest ss (4 + length c.args.value.now) (Some c.in-Some.at)) (c.deref.ensures.value ∙ c.load_busy.ensures.items) c.in-Some.ensures,
+  placed_is c.args.counter c.args.page.now c.write_header.new.page c.args.key c.args.value.now _ c.target-side.result
       (vec_items c.args.self.now.draft) c.deref-2.result.now c.in-Some.at (search (rules, put_mid_patched)) c.target-side.ensures
       (c.deref-2.ensures.value ∙ c.insert.ensures.items
-      ∙ ap (λ d. put_in c.args.page.now c.args.key (slot_at c.in-Some.at c.args.value.now) (vec_items d)) c.load-busy.ensures.draft)
-      c.write-header.ensures,
+      ∙ ap (λ d. put_in c.args.page.now c.args.key (slot_at c.in-Some.at c.args.value.now) (vec_items d)) c.load_busy.ensures.draft)
+      c.write_header.ensures,
 )

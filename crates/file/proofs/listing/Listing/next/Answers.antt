@@ -6,5 +6,5 @@ use Rattle.file.proofs.listing.Listing.next.Goals as goal
 pub loop-record-preserved : goal.loop-record-preserved
 loop-record-preserved c =
     let l = c.loop-record.self in
-    begun l.bytes.now l.first.counter l.first.pages (l.page + 1) (rest c.new-self.result) c.page-at.result.now c.if-page-self.false c.page-at.ensures c.new-self.ensures
-    ∙ sym (ended l.page (rest l.records) _ c.in-default.ensures.0) ∙ c.loop-record.invariant
+    begun l.bytes.now l.first.counter l.first.pages (l.page + 1) (rest c.new-self.result) c.page_at.result.now c.if-page-self.false c.page_at.ensures c.new-self.ensures
+    ∙ sym (ended l.page (rest l.records) _ c.in_default.ensures.0) ∙ c.loop-record.invariant

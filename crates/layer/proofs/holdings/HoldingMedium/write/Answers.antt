@@ -7,14 +7,12 @@ use Rattle.layer.proofs.Images.{distinct_set}
 use Rattle.layer.proofs.Rooms.{puts_held}
 use Rattle.layer.proofs.holdings.HoldingMedium.write.Goals as goal
 
-pub invariant-of-self : goal.invariant-of-self
-invariant-of-self g c = (
-  search rules,
-  (
-    search rules,
-    (distinct_set (images c.args.self.now) c.args.page c.in-Some.i _ c.index-mut.result.now c.in-Some.ensures c.index-mut.ensures.value refl c.args.self.now.once, tt),
-  ),
-)
+pub invariant_of-self : goal.invariant_of-self
+invariant_of-self g c = record {
+  room = search rules;
+  few = search rules;
+  once = distinct_set (images c.args.self.now) c.args.page c.in-Some.i _ c.index_mut.result.now c.in-Some.ensures c.index_mut.ensures.value refl c.args.self.now.once;
+}
 
 pub returns-in-Some : goal.returns-in-Some
 returns-in-Some g c =
@@ -22,8 +20,8 @@ returns-in-Some g c =
     let a = c.args.self.now.medium in
     let fit : good (m a).pages c.args.page c.args.at (length c.args.bytes.now) ≡ true = search rules in
     let runs : (m a).stopped ≡ false = search rules in
-    let puts = puts_held m (images c.args.self.now) a _ c.index-mut.result.now c.args.page c.args.at c.in-Some.i c.args.bytes.now c.in-Some.ensures
-    (good_tells (m a).pages c.args.page c.args.at (length c.args.bytes.now) fit).page c.index-mut.ensures.value refl c.patch-image.ensures.after in
+    let puts = puts_held m (images c.args.self.now) a _ c.index_mut.result.now c.args.page c.args.at c.in-Some.i c.args.bytes.now c.in-Some.ensures
+    (good_tells (m a).pages c.args.page c.args.at (length c.args.bytes.now) fit).page c.index_mut.ensures.value refl c.patch_image.ensures.after in
     record {
       wrote = puts_wrote m g.M.Medium.sized g.M.Medium.shows (images c.args.self.now) a _ a c.args.self.now.once runs c.args.page c.args.at c.args.bytes.now fit (Ok tt) puts;
       below = puts;
