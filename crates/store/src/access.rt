@@ -4,9 +4,9 @@ ghost use Rattle.store.specs.Access.{Loads, ReadsNumber};
 
 use super::refusal::{Refusal, Step};
 use super::refusals::at;
-use octets::{Width, number};
 use layout::Side;
 use medium::Medium;
+use octets::{Width, number};
 
 // Reads a whole page into the work page.
 pub(super) fn load<M: Medium>(medium: &M, page: usize, work: &mut [u8]) -> Result<(), Refusal>

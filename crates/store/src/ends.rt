@@ -9,9 +9,9 @@ use super::refusals::at;
 use super::slip::Slip;
 use super::state::State;
 use super::store::Store;
-use octets::{Width, write_number};
 use layout::FirstPage;
 use medium::Medium;
+use octets::{Width, write_number};
 
 // Settles, and names the step where the medium refuses.
 fn settle<M: Medium>(medium: &mut M) -> Result<(), Refusal>

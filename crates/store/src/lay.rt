@@ -5,8 +5,8 @@ ghost use Rattle.store.specs.Lays.{Names, Writes, WritesUntil, Zeroes, named, ze
 
 use super::refusal::{Refusal, Step};
 use super::refusals::at;
-use octets::{Width, write_number};
 use medium::Medium;
+use octets::{Width, write_number};
 
 // Writes an image to so many pages, from page 0 on.
 fn write_each<M: Medium>(medium: &mut M, pages: usize, image: &[u8]) -> Result<(), Refusal>

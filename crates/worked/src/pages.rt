@@ -1,6 +1,6 @@
 // Small pages, read and checked.
-use octets::{Width, write_number};
 use layout::{FirstPage, Side, find, is_sound, pending, valid};
+use octets::{Width, write_number};
 use std::test::Fail;
 
 // Puts a header over one record of a key and no value, at an offset in the content.

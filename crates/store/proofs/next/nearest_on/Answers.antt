@@ -20,4 +20,4 @@ loop-record-preserved c r h =
     c.if-record-least.false h)
 
 pub returns : goal.returns
-returns c = c.loop-record.invariant c.loop-record.nearest (near_end c.args.least c.loop-record.nearest (rest c.loop-record.records) c.in-default.ensures.0)
+returns c = c.loop-record.invariant c.loop-record.nearest (near_end c.args.least c.loop-record.nearest (rest c.loop-record.records) c.in_default.ensures.0)

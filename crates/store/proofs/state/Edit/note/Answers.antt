@@ -2,10 +2,10 @@ use Rattle.std.proofs.Common.{length, vec_items, ap, ◌∙◌, arith}
 use Rattle.store.proofs.Adding.{length_added}
 use Rattle.store.proofs.state.Edit.note.Goals as goal
 
-pub invariant-of-self : goal.invariant-of-self
-invariant-of-self c = (
-  omega arith,
-  (
+pub invariant_of-self : goal.invariant_of-self
+invariant_of-self c = record {
+  most = omega arith;
+  within =
     omega (
       arith,
       c.args.self.now.within,
@@ -13,7 +13,5 @@ invariant-of-self c = (
       c.args.self.now.touched.pages.ok.0,
       ap length c.add.ensures,
       length_added c.args.page (vec_items c.args.self.now.touched.pages),
-    ),
-    tt,
-  ),
-)
+    );
+}

@@ -3,16 +3,16 @@ use Rattle.std.proofs.lemmas.Result.{err_from_is_err_and}
 use Rattle.store.specs.Opening.{Clears, ClearsUntil}
 use Rattle.store.proofs.store.Store.abandon.Goals as goal
 
-pub returns-in-err-clear-each : goal.returns-in-err-clear-each
-returns-in-err-clear-each g c =
-    let p = err_from_is_err_and c.from-residual.result c.from-residual.ensures.1 in
+pub returns-in_err-clear_each : goal.returns-in_err-clear_each
+returns-in_err-clear_each g c =
+    let p = err_from_is_err_and c.from_residual.result c.from_residual.ensures.1 in
     rw (p.1, p.2)
     (record {
       abandons = inr (
         c.in-Some.first,
         c.in-Some.ensures,
         refl,
-        subst (λ qs. ClearsUntil g.M.Medium.meaning c.in-Some.first.counter qs c.args.self.now.medium c.clear-each.new.medium c.in-err-clear-each.field-0.0) c.pages.ensures c.in-err-clear-each.ensures,
+        subst (λ qs. ClearsUntil g.M.Medium.meaning c.in-Some.first.counter qs c.args.self.now.medium c.clear_each.new.medium c.in_err-clear_each.field-0.0) c.pages.ensures c.in_err-clear_each.ensures,
       );
       edit = refl;
     })
@@ -24,7 +24,7 @@ returns g c =
         c.in-Some.first,
         c.in-Some.ensures,
         refl,
-        subst (λ qs. (n : ℕ) × Clears g.M.Medium.meaning c.in-Some.first.counter qs c.args.self.now.medium c.clear-each.new.medium n) c.pages.ensures c.in-ok-clear-each.ensures,
+        subst (λ qs. (n : ℕ) × Clears g.M.Medium.meaning c.in-Some.first.counter qs c.args.self.now.medium c.clear_each.new.medium n) c.pages.ensures c.in_ok-clear_each.ensures,
       );
       edit = refl;
     }

@@ -9,11 +9,11 @@ pub returns : goal.returns
 returns g c =
     let can : CanLay (g.M.Medium.meaning c.args.self.now.medium) c.args.self.now.state (length c.args.work.now) c.args.pages = search rules in
     let done = lay_named g.M.Medium.meaning c.args.pages c.args.self.now.medium c.args.self.now.state c.args.work.now can
-    c.zero-pages.new.medium c.name-file.new.medium c.zero-pages.new.work c.name-file.new.work c.in-ok-zero-pages.field-0 c.name-file.result
-    (search rules) (search rules) c.name-file.ensures.names c.name-file.ensures.work in
+    c.zero_pages.new.medium c.name_file.new.medium c.zero_pages.new.work c.name_file.new.work c.in_ok-zero_pages.field-0 c.name_file.result
+    (search rules) (search rules) c.name_file.ensures.names c.name_file.ensures.work in
     record {
       lays = done;
-      laid = lays_empty g.M.Medium.meaning g.M.Medium.sized c.args.pages c.args.self.now.medium c.name-file.new.medium c.args.self.now.state Shut
-          c.args.work.now c.name-file.new.work c.name-file.result done;
+      laid = lays_empty g.M.Medium.meaning g.M.Medium.sized c.args.pages c.args.self.now.medium c.name_file.new.medium c.args.self.now.state Shut
+          c.args.work.now c.name_file.new.work c.name_file.result done;
       edit = refl;
     }

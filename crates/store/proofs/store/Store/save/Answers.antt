@@ -2,11 +2,11 @@ use Rattle.std.proofs.Common.{refl, inr}
 use Rattle.std.proofs.lemmas.Result.{err_from_is_err_and}
 use Rattle.store.proofs.store.Store.save.Goals as goal
 
-pub returns-in-err-commit : goal.returns-in-err-commit
-returns-in-err-commit g c =
-    let p = err_from_is_err_and c.from-residual.result c.from-residual.ensures.1 in
-    rw (p.1, p.2) (record { saves = inr ((c.in-Some.first, c.in-Some.ensures), c.in-err-commit.ensures, refl); edit = refl })
+pub returns-in_err-commit : goal.returns-in_err-commit
+returns-in_err-commit g c =
+    let p = err_from_is_err_and c.from_residual.result c.from_residual.ensures.1 in
+    rw (p.1, p.2) (record { saves = inr ((c.in-Some.first, c.in-Some.ensures), c.in_err-commit.ensures, refl); edit = refl })
 
 pub returns : goal.returns
 returns g c =
-    record { saves = ((c.in-Some.first, c.in-Some.ensures, (_, refl, refl, refl)), c.in-ok-commit.ensures, refl, refl); edit = refl }
+    record { saves = ((c.in-Some.first, c.in-Some.ensures, (_, refl, refl, refl)), c.in_ok-commit.ensures, refl, refl); edit = refl }
