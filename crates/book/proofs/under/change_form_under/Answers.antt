@@ -7,5 +7,5 @@ use Rattle.book.proofs.under.change_form_under.Goals as goal
 pub returns : goal.returns
 returns g c =
     made_form g.M.Medium.meaning c.args.at Replace c.args.key (g.F.Forms.bytes c.args.value.now) (replicate 200 0) c.write-n.new.out c.write-n.result
-    (moment c.args.store.now c.args.slips.now c.args.work.now) (moment c.change-under.new.store c.args.slips.now c.change-under.new.work)
-    c.change-under.result c.write-n.ensures.count c.write-n.ensures.after c.change-under.ensures
+    (moment c.args.store.now c.args.slips.now c.args.work.now) (moment c.change_under.new.store c.args.slips.now c.change_under.new.work)
+    c.change_under.result c.write-n.ensures.count c.write-n.ensures.after c.change_under.ensures

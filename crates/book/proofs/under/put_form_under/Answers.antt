@@ -7,5 +7,5 @@ use Rattle.book.proofs.under.put_form_under.Goals as goal
 pub returns : goal.returns
 returns g c =
     made_form g.M.Medium.meaning c.args.at Put c.args.key (g.F.Forms.bytes c.args.value.now) (replicate 200 0) c.write-n.new.out c.write-n.result
-    (moment c.args.store.now c.args.slips.now c.args.work.now) (moment c.put-under.new.store c.args.slips.now c.put-under.new.work)
-    c.put-under.result c.write-n.ensures.count c.write-n.ensures.after c.put-under.ensures
+    (moment c.args.store.now c.args.slips.now c.args.work.now) (moment c.put_under.new.store c.args.slips.now c.put_under.new.work)
+    c.put_under.result c.write-n.ensures.count c.write-n.ensures.after c.put_under.ensures
