@@ -2,8 +2,8 @@ use Rattle.std.proofs.Common.{rules}
 use Rattle.script.proofs.Parts.{no_lines, last_line, next_line}
 use Rattle.script.proofs.words.Lines.next.Goals as goal
 
-pub returns-then-is-empty : goal.returns-then-is-empty
-returns-then-is-empty c = search (rules, no_lines)
+pub returns-then-is_empty : goal.returns-then-is_empty
+returns-then-is_empty c = search (rules, no_lines)
 
 pub returns-then-end-rest : goal.returns-then-end-rest
 returns-then-end-rest c =
