@@ -5,7 +5,7 @@ use Rattle.stage.proofs.lend.put_poke.Goals as goal
 
 pub returns : goal.returns
 returns c =
-    let place = place_same _ _ _ _ _ c.saturating-mul.ensures c.saturating-add-start.ensures c.put-within.ensures.bound in
-    c.put-within.ensures.puts
+    let place = place_same _ _ _ _ _ c.saturating_mul.ensures c.saturating_add-start.ensures c.put_within.ensures.bound in
+    c.put_within.ensures.puts
     ∙ poked_same _ _ _ _ place
-    ∙ ap (λ (xs : List ℕ). poked c.args.bytes.now (c.args.poke.now.page * 1024 + c.args.poke.now.offset) xs) c.as-slice.ensures.value
+    ∙ ap (λ (xs : List ℕ). poked c.args.bytes.now (c.args.poke.now.page * 1024 + c.args.poke.now.offset) xs) c.as_slice.ensures.value

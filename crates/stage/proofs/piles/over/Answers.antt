@@ -3,4 +3,4 @@ use Rattle.stage.proofs.Stepping.{made_map}
 use Rattle.stage.proofs.piles.over.Goals as goal
 
 pub returns-in-Ok : goal.returns-in-Ok
-returns-in-Ok g c = made_map c.make-steps-done.result _ _ (λ _ p. (_, _, search rules, search rules, search rules, p)) c.make-steps-done.ensures
+returns-in-Ok g c = made_map c.make_steps-done.result _ _ (λ _ p. (_, _, search rules, search rules, search rules, p)) c.make_steps-done.ensures

@@ -4,17 +4,17 @@ use Rattle.stage.specs.Steps.{with_line}
 use Rattle.stage.proofs.Stepping.{failed, steps_all, steps_more}
 use Rattle.stage.proofs.steps.make_steps.Goals as goal
 
-pub returns-in-err-make-step : goal.returns-in-err-make-step
-returns-in-err-make-step g c = failed c.from-residual-in-err-make-step.result _ c.from-residual-in-err-make-step.ensures.0
+pub returns-in_err-make_step : goal.returns-in_err-make_step
+returns-in_err-make_step g c = failed c.from_residual-in_err-make_step.result _ c.from_residual-in_err-make_step.ensures.0
 
 pub loop-step-preserved : goal.loop-step-preserved
 loop-step-preserved g c =
     steps_more g.M.Medium.meaning c.args.steps.now c.loop-step.step-index c.step-item.result _ _ _ _ _ _ c.loop-step-test.true c.step-item.is c.loop-step.invariant
-    c.in-ok-make-step.ensures
+    c.in_ok-make_step.ensures
 
 pub returns : goal.returns
 returns g c =
     let pages = c.pages.ensures ∙ ap (λ m. (g.M.Medium.meaning m).pages) c.medium.ensures in
-    let line = c.as-str.ensures.value ∙ c.in-ok-tell-pages.ensures ∙ ap medium_line pages in
-    let text = c.in-ok-add-line.ensures ∙ ap (with_line (string_bytes c.args.out.now)) line in
+    let line = c.as_str.ensures.value ∙ c.in_ok-tell_pages.ensures ∙ ap medium_line pages in
+    let text = c.in_ok-add_line.ensures ∙ ap (with_line (string_bytes c.args.out.now)) line in
     (vec_items c.loop-step.work, steps_all g.M.Medium.meaning c.args.steps.now c.loop-step.step-index _ _ _ _ _ _ _ _ _ c.loop-step-test.false (search rules) text c.loop-step.invariant)
