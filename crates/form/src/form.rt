@@ -16,20 +16,24 @@ pub struct BadField {
 }
 
 impl BadByte {
+    pub const NUMBER: u8 = 16;
+
     // The refusal's number.
     pub fn number(&self) -> u8
         ensures { result ≡ 16 }
     {
-        16 // bytes that are not of the form
+        Self::NUMBER // bytes that are not of the form
     }
 }
 
 impl BadField {
+    pub const NUMBER: u8 = 17;
+
     // The refusal's number.
     pub fn number(&self) -> u8
         ensures { result ≡ 17 }
     {
-        17 // a field outside its range
+        Self::NUMBER // a field outside its range
     }
 }
 

@@ -8,8 +8,8 @@ use Rattle.layout.specs.Pages.{entry_of, header_of, number_of, rank, records, sa
 use Rattle.layout.specs.Sound.{Fits, Numbered}
 use Rattle.draft.specs.Drafts.{begun_side, draft_records, draft_slots, slots_on, target}
 use Rattle.guard.specs.Guard.{Base, Near, other}
-use Rattle.guard.specs.Clears.{cleared_on}
-use Rattle.guard.specs.Changes.{Begins, Drafted, Saves, TakesBack}
+use Rattle.guard.specs.Clears.{cleared, cleared_on}
+use Rattle.guard.specs.Changes.{Begins, Drafted, Saves, TakesBack, TakesDraftBack}
 use Rattle.guard.proofs.Sided.{begun_none, begun_not, begun_number, each_side, numbered_low, rank_low, side_first}
 use Rattle.guard.proofs.Nearby.{base_low, near_itself, near_numbered, near_other, near_records, near_sound}
 use Rattle.guard.proofs.Rewritten.{near_header}
@@ -56,8 +56,8 @@ draft_saved counter pages q base page d none = (
       ∙ near_records counter pages q base page d.base_fits d.near,
 )
 
-pub takes_back : TakesBack
-takes_back counter pages q base page d = elim d.begun [
+taken_back : (counter pages q : ℕ) (base page : List ℕ) → Drafted counter pages q base page → Back counter pages q base (cleared counter page)
+taken_back counter pages q base page d = elim d.begun [
   | inl none ↦ subst (Back counter pages q base) (sym (ap (cleared_on page) none)) (draft_saved counter pages q base page d none)
   | inr some ↦
       let t : Side = target counter base in
@@ -73,6 +73,12 @@ takes_back counter pages q base page d = elim d.begun [
       subst (Back counter pages q base) (sym (ap (cleared_on page) some))
       (draft_saved counter pages q base c (drafted_none counter pages q base c d.base_fits near none) none)
 ]
+
+pub takes_back : TakesBack
+takes_back counter pages q base page d = let b = taken_back counter pages q base page d in (b.0, b.1)
+
+pub takes_draft_back : TakesDraftBack
+takes_draft_back counter pages q base page d = (taken_back counter pages q base page d).2
 
 -- the edit numbers under a counter that is one more
 numbered_later : (counter : ℕ) (page : List ℕ) → Numbered counter page → Numbered (counter + 1) page

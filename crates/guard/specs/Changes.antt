@@ -49,11 +49,15 @@ Removes = (counter pages q : ℕ) (base page new : List ℕ) (key : ℕ)
     → counter + 1 < 2 ^ 32 → Drafted counter pages q base page
     → RemovedPage counter page new key (Ok tt) → Changes counter pages q base page new key None
 
--- clearing a page of the edit takes its draft back: no header is begun, and the draft is what was saved
+-- clearing a page of the edit takes its draft back
 abbrev pub TakesBack : Type 0
 TakesBack = (counter pages q : ℕ) (base page : List ℕ) → Drafted counter pages q base page
     → Drafted counter pages q base (cleared counter page) × (begun_side counter (cleared counter page) ≡ None)
-    × (draft_records counter (cleared counter page) ≡ records counter base)
+
+-- and the draft is what was saved, then
+abbrev pub TakesDraftBack : Type 0
+TakesDraftBack = (counter pages q : ℕ) (base page : List ℕ) → Drafted counter pages q base page
+    → draft_records counter (cleared counter page) ≡ records counter base
 
 -- with the counter one more, a page of the edit is one at which the next edit can begin, and its records are the draft's
 abbrev pub Saves : Type 0

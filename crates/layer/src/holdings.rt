@@ -172,7 +172,9 @@ impl<M: Cut> Cut for Holding<M> {
     // What is held is lost, and the medium below is cut.
     fn cut(&mut self)
         ensures cut { CutMedium (layered M.Medium.meaning self.old) (layered M.Medium.meaning self.new) }
-        ensures below { HoldingCuts M.Medium.meaning M.Cut.cuts self.old self.new }
+        ensures lost { images self.new ≡ [] }
+        ensures below { CutMedium (M.Medium.meaning self.old.medium) (M.Medium.meaning self.new.medium) }
+        ensures exactly { HoldingCuts M.Medium.meaning M.Cut.cuts self.old self.new }
     {
         self.held.clear();
         self.medium.cut();

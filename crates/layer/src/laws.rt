@@ -6,7 +6,7 @@ ghost use Rattle.layer.specs.Windows.{seen};
 
 use super::holding::Holding;
 use super::window::Window;
-use medium::{Medium, MediumFault, read_back};
+use medium::{Medium, MediumFault};
 
 // What is written through a window onto a holding layer is read back.
 pub fn read_back_through<M: Medium>(
@@ -19,5 +19,6 @@ pub fn read_back_through<M: Medium>(
     ensures steps { ReadsBack (seen (layered M.Medium.meaning) pile.old) (seen (layered M.Medium.meaning) pile.new) page at bytes.now out.old out.new result }
     ensures same { OnOk result (length out.old ≡ length bytes.now → out.new ≡ bytes.now) }
 {
-    read_back(pile, page, at, bytes, out)
+    pile.write(page, at, bytes)?;
+    pile.read(page, at, out)
 }

@@ -26,9 +26,13 @@ Unchanged t u = (u.bytes.now ≡ t.bytes.now) × (u.left ≡ t.left) × (u.patte
 abbrev pub Counted : Trial → Trial → Type 0
 Counted t u = (t.stopped ≡ false) × (t.left ≢ 1) × (u.stopped ≡ false) × (u.left ≡ t.left - 1) × (u.pattern ≡ t.pattern)
 
--- the call in which it stops; it counts no more then
+-- the call in which it stops
 abbrev pub StopsNow : Trial → Trial → Type 0
-StopsNow t u = (t.stopped ≡ false) × (t.left ≡ 1) × (u.stopped ≡ true) × (u.left ≡ 0) × (u.pattern ≡ t.pattern)
+StopsNow t u = (t.stopped ≡ false) × (t.left ≡ 1) × (u.stopped ≡ true)
+
+-- once a call has stopped it, it counts no more, and keeps its pattern
+abbrev pub CountsNoMore : Trial → Trial → Type 0
+CountsNoMore t u = t.stopped ≡ false → u.stopped ≡ true → (u.left ≡ 0) × (u.pattern ≡ t.pattern)
 
 -- exactly what a write does
 abbrev pub TrialWrote : Trial → Trial → ℕ → ℕ → List ℕ → Result (Unit {0}) MediumFault → Type 0

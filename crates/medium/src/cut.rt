@@ -37,7 +37,8 @@ impl Cut for Trial<'_> {
     // It does not stop again.
     fn cut(&mut self)
         ensures rule { CutMedium (flat self.old.stopped self.old.bytes.now) (flat self.new.stopped self.new.bytes.now) }
-        ensures exactly { TrialCuts self.old self.new }
+        ensures exactly { (self.new.bytes.now ≡ self.old.bytes.now) × (self.new.left ≡ 0) }
+        ensures cuts { TrialCuts self.old self.new }
     {
         self.stopped = false;
         self.left = 0;

@@ -2,7 +2,7 @@
 ghost use Rattle.std.specs.Prelude.{◌≡◌, ◌+◌, ◌%◌, ◌≤◌, false, length, MatchBool};
 ghost use Rattle.medium.specs.Flat.{flat, flat_sized, flat_shows};
 ghost use Rattle.medium.specs.Meaning.{Wrote, Settled};
-ghost use Rattle.medium.specs.Trials.{Partly, Counted, StopsNow, TrialWrote, TrialSettled};
+ghost use Rattle.medium.specs.Trials.{Partly, Counted, CountsNoMore, StopsNow, TrialWrote, TrialSettled};
 
 use super::fault::MediumFault;
 use super::medium::{Medium, good_run};
@@ -40,6 +40,7 @@ impl<'a> Trial<'a> {
         requires { self.old.stopped ≡ false }
         ensures counts { MatchBool result (StopsNow self.old self.new) (Counted self.old self.new) }
         ensures keeps { (self.new.bytes.now ≡ self.old.bytes.now) × (self.new.pattern ≡ self.old.pattern) }
+        ensures ends { CountsNoMore self.old self.new }
     {
         self.stopped = self.left == 1;
         self.left = self.left.saturating_sub(1);
@@ -89,6 +90,7 @@ impl Medium for Trial<'_> {
     fn write(&mut self, page: usize, at: usize, bytes: &[u8]) -> Result<(), MediumFault>
         ensures rule { Wrote (flat self.old.stopped self.old.bytes.now) (flat self.new.stopped self.new.bytes.now) page at bytes.now result }
         ensures exactly { TrialWrote self.old self.new page at bytes.now result }
+        ensures ends { CountsNoMore self.old self.new }
     {
         if !good_run(self.bytes.len() / 1024, page, at, bytes.len()) {
             return Err(MediumFault::BadRun);
@@ -109,6 +111,7 @@ impl Medium for Trial<'_> {
     fn settle(&mut self) -> Result<(), MediumFault>
         ensures rule { Settled (flat self.old.stopped self.old.bytes.now) (flat self.new.stopped self.new.bytes.now) result }
         ensures exactly { TrialSettled self.old self.new result }
+        ensures ends { CountsNoMore self.old self.new }
     {
         if self.stopped || self.stops_now() {
             return Err(MediumFault::Stopped);

@@ -3,7 +3,7 @@
 
 mod table;
 
-pub use table::worked_cases;
+pub use table::{case_count, worked_cases};
 
 #[cfg(test)]
 mod forms;

@@ -2,10 +2,16 @@
 ghost use Rattle.std.specs.Prelude.{◌≡◌, length};
 ghost use Rattle.worked.specs.Table.{EveryCase, table};
 
-// How many worked cases there are. Every one holds.
-pub fn worked_cases() -> usize
-    ensures hold { EveryCase }
-    ensures count { result ≡ length table }
+// Every case of the table holds.
+pub fn worked_cases() -> u8
+    ensures { EveryCase }
+{
+    0
+}
+
+// How many worked cases there are.
+pub fn case_count() -> usize
+    ensures { result ≡ length table }
 {
     11
 }

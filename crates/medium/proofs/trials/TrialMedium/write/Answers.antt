@@ -12,6 +12,7 @@ returns-then-stops_now c =
     record {
       rule = (g, counts.2, search (rules, stopped_flat), λ on. absurd (both_ways _ c.if-self.false on));
       exactly = search rules;
+      ends = search rules;
     }
 
 pub returns : goal.returns
@@ -19,4 +20,4 @@ returns c =
     let g = sym c.good_run.ensures ∙ c.if-not-good_run.false in
     let counts = c.if-stops_now.ensures.counts in
     let put = c.patch.ensures ∙ ap (λ b. patched b (c.args.page * 1024 + c.args.at) c.args.bytes.now) c.stops_now.ensures.keeps.0 in
-    record { rule = search (rules, wrote_flat); exactly = search rules }
+    record { rule = search (rules, wrote_flat); exactly = search rules; ends = search rules }

@@ -6,12 +6,12 @@ pub invariant_of-self : goal.invariant_of-self
 invariant_of-self c = record {
   most = omega arith;
   within =
-    omega (
-      arith,
-      c.args.self.now.within,
-      c.add.new.self.pages.ok.0,
-      c.args.self.now.touched.pages.ok.0,
-      ap length c.add.ensures,
-      length_added c.args.page (vec_items c.args.self.now.touched.pages),
-    );
+      omega (
+        arith,
+        c.args.self.now.within,
+        c.add.new.self.pages.ok.0,
+        c.args.self.now.touched.pages.ok.0,
+        ap length c.add.ensures,
+        length_added c.args.page (vec_items c.args.self.now.touched.pages),
+      );
 }
