@@ -1,12 +1,11 @@
 -- Abandoning an edit keeps the store to its book.
-use Rattle.std.proofs.Common.{◌≡◌, ℕ, zero, suc, ◌+◌, ◌<◌, ◌≤◌, Bool, true, false, ltb, ◌⊎◌, List, [], ◌∷◌, length, get_or, take, Some, None, Ok, Err, Result, sym, ap, ◌∙◌, subst, inl, inr, ⊎_elim, arith}
+use Rattle.std.proofs.Common.{◌≡◌, ℕ, zero, suc, ◌<◌, Bool, true, false, List, [], ◌∷◌, length, get_or, take, Some, None, Ok, Err, sym, ap, ◌∙◌, subst, inl, inr, ⊎_elim, arith}
 use Rattle.std.specs.List.{AllByRecursion as All}
 use Rattle.std.proofs.lemmas.Bool.{both_ways, cases_Bool, cases_eq}
-use Rattle.octets.specs.Files.{word}
 use Rattle.octets.specs.Parts.{patched}
 use Rattle.medium.specs.declared.fault.MediumFault.{MediumFault}
 use Rattle.medium.specs.declared.fault.MediumFault.TheVariants.{BadRun, Stopped}
-use Rattle.medium.specs.Meaning.{Gains, Meaning, Sized, Wrote, good}
+use Rattle.medium.specs.Meaning.{Gains, Meaning, Sized, Wrote}
 use Rattle.layout.specs.declared.first.FirstPage.{FirstPage}
 use Rattle.layout.specs.declared.header.Side.{Side}
 use Rattle.layout.specs.Pages.{start}
@@ -16,16 +15,12 @@ use Rattle.guard.specs.Clears.{cleared_on, zeros}
 use Rattle.guard.proofs.Nearby.{near_words}
 use Rattle.guard.proofs.Stages.{takes_back}
 use Rattle.store.specs.declared.refusal.Refusal.{Refusal}
-use Rattle.store.specs.declared.state.Edit.{Edit}
-use Rattle.store.specs.declared.state.State.{State}
-use Rattle.store.specs.declared.state.State.TheVariants.{Shut, Open, Editing}
-use Rattle.store.specs.Access.{Denies}
+use Rattle.store.specs.declared.state.State.TheVariants.{Open, Editing}
 use Rattle.store.specs.Clearing.{ClearsPage}
 use Rattle.store.specs.Edits.{touched_by}
-use Rattle.store.specs.Ends.{Abandons}
-use Rattle.store.specs.Opening.{Clears, ClearsUntil}
+use Rattle.store.specs.Opening.{Clears}
 use Rattle.book.specs.Books.{Book, Values}
-use Rattle.book.specs.Keeps.{CleanBut, Has, Keeps, Later, Rests, Stands}
+use Rattle.book.specs.Keeps.{CleanBut, Keeps, Later, Rests, Stands}
 use Rattle.book.proofs.Steps.{AbandonKeeps}
 use Rattle.book.proofs.Cutting.{rests_safe}
 use Rattle.book.proofs.Resting.{rests_gains, rests_on}

@@ -1,8 +1,8 @@
 -- What a cut leaves of a store that keeps to its book.
-use Rattle.std.proofs.Common.{◌≡◌, ℕ, ◌<◌, ◌≤◌, true, false, ◌⊎◌, List, length, sym, refl, ap, ◌∙◌, subst, inl, inr, arith}
-use Rattle.octets.specs.Files.{File, word}
+use Rattle.std.proofs.Common.{◌≡◌, ℕ, ◌<◌, List, sym, ap, ◌∙◌, subst, inl, arith}
+use Rattle.octets.specs.Files.{File}
 use Rattle.octets.proofs.Words.{words_same}
-use Rattle.medium.specs.Cuts.{CutFile, shown_file}
+use Rattle.medium.specs.Cuts.{CutFile}
 use Rattle.medium.specs.Meaning.{Meaning, Sized}
 use Rattle.medium.proofs.Cutting.{settled_leaves}
 use Rattle.layout.specs.declared.first.FirstPage.{FirstPage}
@@ -10,10 +10,9 @@ use Rattle.layout.specs.Pages.{page_of, records}
 use Rattle.layout.specs.Sound.{FirstSound, Sound, SoundFile, counter_of, pages_of}
 use Rattle.guard.specs.Changes.{value_in}
 use Rattle.guard.proofs.Nearby.{guards}
-use Rattle.store.specs.declared.state.State.{State}
 use Rattle.store.specs.declared.state.State.TheVariants.{Shut, Open, Editing}
-use Rattle.book.specs.Books.{Book, Faithful, Says, Values, opening}
-use Rattle.book.specs.Keeps.{Found, Keeps, Later, Rests, Safe}
+use Rattle.book.specs.Books.{Book, Says, Values}
+use Rattle.book.specs.Keeps.{Found, Later, Rests, Safe}
 use Rattle.book.proofs.Steps.{Starts, Survives}
 use Rattle.book.proofs.Ranges.{key_later}
 

@@ -1,5 +1,5 @@
 -- What is saved goes on resting.
-use Rattle.std.proofs.Common.{◌≡◌, ℕ, ◌<◌, ◌≤◌, ◌⊎◌, List, length, sym, subst, inl, inr, arith}
+use Rattle.std.proofs.Common.{ℕ, ◌<◌, List, length, sym, subst, inl, inr, arith}
 use Rattle.octets.specs.Files.{word}
 use Rattle.octets.specs.Parts.{patched}
 use Rattle.medium.specs.Meaning.{Gains, InRun, Meaning, NoGain}

@@ -1,5 +1,5 @@
 -- Runs that no medium refuses as bad.
-use Rattle.std.proofs.Common.{◌≡◌, ℕ, ◌<◌, Bool, true, false, ◌&&◌, ltb, sym, refl, ◌∙◌}
+use Rattle.std.proofs.Common.{◌≡◌, ℕ, ◌<◌, Bool, true, false, ◌&&◌, ltb, refl, ◌∙◌}
 use Rattle.std.proofs.lemmas.Bool.{both_ways, lt-ltb}
 use Rattle.medium.specs.Meaning.{good}
 use Rattle.layout.specs.declared.header.Side.{Side}

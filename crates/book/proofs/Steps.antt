@@ -1,5 +1,5 @@
 -- Each call keeps the store to its book.
-use Rattle.std.proofs.Common.{◌≡◌, ℕ, ◌^◌, ◌<◌, Bool, ltb, List, [], length, Some, None, Option, Result}
+use Rattle.std.proofs.Common.{ℕ, ◌^◌, ◌<◌, ltb, List, length, Some, None, Option, Result}
 use Rattle.medium.specs.Meaning.{Meaning}
 use Rattle.store.specs.declared.change.Change.{Change}
 use Rattle.store.specs.declared.change.Change.TheVariants.{Put, Replace, Remove}
@@ -12,7 +12,7 @@ use Rattle.store.specs.declared.state.State.TheVariants.{Shut}
 use Rattle.store.specs.Edits.{Begins, Edits, page_change, touched_by}
 use Rattle.store.specs.Ends.{Abandons, Saves}
 use Rattle.store.specs.Opens.{Opens}
-use Rattle.book.specs.Books.{Book, Faithful, Values, begun, edited, opening, saved_by}
+use Rattle.book.specs.Books.{Book, Values, begun, edited, opening, saved_by}
 use Rattle.book.specs.Keeps.{Found, Keeps, Safe}
 
 -- a store shut on a sound file at rest keeps to the book of that file

@@ -1,5 +1,5 @@
 -- The book of a use: what its calls and their answers say is saved.
-use Rattle.std.specs.Prelude.{◌≡◌, ℕ, Bool, true, false, cond, ◌⊎◌, List, Some, None, Ok, Err, Option, Result, ◌==◌}
+use Rattle.std.specs.Prelude.{◌≡◌, ℕ, Bool, true, false, cond, ◌⊎◌, List, Ok, Err, Option, Result, ◌==◌}
 use Rattle.octets.specs.Files.{File}
 use Rattle.layout.specs.Pages.{page_of, records}
 use Rattle.layout.specs.Sound.{SoundFile, counter_of, pages_of}

@@ -17,9 +17,7 @@ use Rattle.store.specs.Edits.{touched_by}
 use Rattle.store.specs.Opens.{Opens}
 use Rattle.book.specs.declared.call.Call.{Call}
 use Rattle.book.specs.declared.call.Call.TheVariants.{Open, Begin, Put, Change as ChangeTo, Remove, Look, Next, Save, Abandon, PutForm, ChangeForm, LookForm}
-use Rattle.book.specs.declared.call.Denied.{Denied}
 use Rattle.book.specs.declared.call.Denied.TheVariants.{NoSlip, Store as ByStore, Form as ByForm, NotOfForm}
-use Rattle.book.specs.declared.call.Done.{Done}
 use Rattle.book.specs.declared.call.Done.TheVariants.{Value}
 use Rattle.book.specs.Books.{Book, Faithful, Says, Values, doubted, opening, with}
 use Rattle.book.specs.Keeps.{Found, Keeps}

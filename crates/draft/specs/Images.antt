@@ -1,5 +1,5 @@
 -- The page images that a put, a change and a remove write.
-use Rattle.std.specs.Prelude.{◌≡◌, ℕ, ◌+◌, ◌-◌, ◌*◌, ◌<◌, ◌≤◌, List, [], ◌∷◌, ◌++◌, map, length, take, replicate, Some, None, Ok, Err, Option, Result, ◌≢◌}
+use Rattle.std.specs.Prelude.{◌≡◌, ℕ, ◌+◌, ◌-◌, ◌*◌, ◌<◌, ◌≤◌, List, ◌∷◌, ◌++◌, length, take, replicate, Some, None, Ok, Err, Result, ◌≢◌}
 use Rattle.std.specs.List.{flat_map}
 use Rattle.octets.specs.Numbers.{spell}
 use Rattle.octets.specs.Parts.{patched}

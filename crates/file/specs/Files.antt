@@ -1,7 +1,7 @@
 -- A file of bytes as pages, and what reading all of it gives.
-use Rattle.std.specs.Prelude.{◌≡◌, ℕ, ◌+◌, ◌-◌, ◌*◌, ◌/◌, ◌<◌, ◌≤◌, cond, eqb, List, [], ◌∷◌, ◌++◌, map, length, Some, None, Ok, Err, sum_by, Option, Result}
+use Rattle.std.specs.Prelude.{◌≡◌, ℕ, ◌-◌, ◌<◌, ◌≤◌, List, map, Some, None, Ok, Err, sum_by, Option, Result}
 use Rattle.std.specs.List.{range_with_len, flat_map}
-use Rattle.octets.specs.Files.{File, file_of}
+use Rattle.octets.specs.Files.{file_of}
 use Rattle.layout.specs.declared.first.FirstPage.{FirstPage}
 use Rattle.file.specs.declared.refusal.FileRefusal.{FileRefusal}
 use Rattle.file.specs.declared.refusal.FileRefusal.TheVariants.{TooFewPages, NotAShowFile, UnsoundPage}

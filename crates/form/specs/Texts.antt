@@ -1,5 +1,5 @@
 -- Cues and stills as text, over the characters' codes.
-use Rattle.std.specs.Prelude.{ℕ, List, [], ◌∷◌, ◌++◌, Some, None, codes, decimal, Option}
+use Rattle.std.specs.Prelude.{ℕ, List, [], ◌++◌, Some, None, codes, decimal, Option}
 use Rattle.form.specs.declared.cue.Cue.{Cue}
 use Rattle.form.specs.declared.still.Still.{Still}
 

@@ -2,7 +2,7 @@
 use Rattle.std.specs.Prelude.{◌≡◌, ℕ, ◌+◌, ◌^◌, ◌<◌, ◌≤◌, cond, ◌⊎◌, List, length, Some, None, Ok, Option, ◌==◌}
 use Rattle.std.specs.Option.{option_map}
 use Rattle.layout.specs.Pages.{Entry, page_of, records}
-use Rattle.layout.specs.Sound.{Fits, Sound}
+use Rattle.layout.specs.Sound.{Fits}
 use Rattle.layout.specs.Walks.{keyed}
 use Rattle.draft.specs.Drafts.{begun_side, draft_records, slots_on, target}
 use Rattle.draft.specs.Images.{PutPage, ChangedPage, RemovedPage}

@@ -1,5 +1,5 @@
 -- Clearing the number of a change that was never saved.
-use Rattle.std.specs.Prelude.{◌≡◌, ℕ, ◌*◌, ◌<◌, ◌≤◌, ◌⊎◌, List, [], ◌∷◌, length, Some, None, Option}
+use Rattle.std.specs.Prelude.{◌≡◌, ℕ, ◌<◌, ◌⊎◌, List, [], ◌∷◌, length, Some, None, Option}
 use Rattle.octets.specs.Files.{word}
 use Rattle.octets.specs.Parts.{patched}
 use Rattle.layout.specs.declared.header.Side.{Side}

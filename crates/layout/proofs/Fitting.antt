@@ -1,7 +1,6 @@
 -- The slots of a header one by one, and all of them fitting their page.
-use Rattle.std.proofs.Common.{◌≡◌, ℕ, ◌<◌, ◌≤◌, List, length, sym, ap, ◌∙◌, subst, zero-add, arith}
+use Rattle.std.proofs.Common.{◌≡◌, ℕ, ◌<◌, ◌≤◌, List, length, sym, subst, zero-add, arith}
 use Rattle.std.proofs.lemmas.List.FromFn.{length-map-range_with_len, get_or-map-range_with_len}
-use Rattle.layout.specs.declared.header.Slot.{Slot}
 use Rattle.layout.specs.declared.header.Header.{Header}
 use Rattle.layout.specs.Pages.{slots, slot_of}
 use Rattle.layout.specs.Sound.{at, Own, Before, Fits}

@@ -1,5 +1,5 @@
 -- The saved records of a file.
-use Rattle.std.specs.Prelude.{ℕ, List, Option}
+use Rattle.std.specs.Prelude.{ℕ, Option}
 use Rattle.octets.specs.Files.{File}
 use Rattle.layout.specs.Pages.{Entry, page_of, records}
 use Rattle.layout.specs.Sound.{pages_of, counter_of}

@@ -1,5 +1,5 @@
 -- Bytes as a medium that shows them, and of which a cut can leave nothing else.
-use Rattle.std.specs.Prelude.{◌≡◌, ℕ, ◌*◌, ◌<◌, Bool, false, List, length, drop, refl}
+use Rattle.std.specs.Prelude.{◌≡◌, ℕ, ◌*◌, Bool, List, drop, refl}
 use Rattle.std.proofs.Common.{arith, length-drop}
 use Rattle.std.proofs.lemmas.List.{length-take-le}
 use Rattle.octets.specs.Files.{file_of, page_at, word}

@@ -1,6 +1,5 @@
 -- What lines ask for.
 use Rattle.std.specs.Prelude.{ℕ}
-use Rattle.script.specs.declared.script.Card.{Card}
 use Rattle.script.specs.declared.script.Named.{Named}
 use Rattle.script.specs.declared.script.Named.TheVariants.{Memory, Trial, Window, Hold, WindowHold, HoldWindow}
 use Rattle.script.specs.declared.script.Step.{Step}

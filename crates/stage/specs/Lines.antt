@@ -1,5 +1,5 @@
 -- The lines that are printed, over the characters' codes.
-use Rattle.std.specs.Prelude.{ℕ, Bool, true, false, List, [], ◌∷◌, ◌++◌, Ok, Err, codes, decimal, Result}
+use Rattle.std.specs.Prelude.{ℕ, Bool, true, false, List, ◌++◌, Ok, Err, codes, decimal, Result}
 use Rattle.book.specs.declared.call.Denied.{Denied}
 use Rattle.book.specs.declared.call.Denied.TheVariants.{NoSlip, Store, Form, NotOfForm}
 use Rattle.book.specs.declared.call.Done.{Done}

@@ -1,5 +1,5 @@
 -- The ways in which a change ends.
-use Rattle.std.proofs.Common.{◌≡◌, ℕ, Bool, ◌⊎◌, List, length, Ok, Err, Result, sym, refl, ap, ◌∙◌, subst, inl, inr, arith}
+use Rattle.std.proofs.Common.{◌≡◌, ℕ, Bool, List, length, Ok, Err, Result, sym, refl, ◌∙◌, subst, inl, inr, arith}
 use Rattle.medium.specs.Meaning.{Meaning}
 use Rattle.layout.specs.declared.first.FirstPage.{FirstPage}
 use Rattle.layout.specs.Pages.{page_of}
@@ -7,7 +7,7 @@ use Rattle.draft.specs.declared.refusal.PageRefusal.{PageRefusal}
 use Rattle.store.specs.declared.refusal.Refusal.{Refusal}
 use Rattle.store.specs.declared.state.Edit.{Edit}
 use Rattle.store.specs.declared.state.State.{State}
-use Rattle.store.specs.Access.{Grants, Loads}
+use Rattle.store.specs.Access.{Loads}
 use Rattle.store.specs.Edits.{Applies, Edits, Offers, PageChange, Ready, passed, passed_up}
 
 -- a page's refusal that was passed up

@@ -5,7 +5,7 @@ use Rattle.medium.specs.Meaning.{Meaning}
 use Rattle.store.specs.declared.refusal.Refusal.{Refusal}
 use Rattle.store.specs.Clearing.{ClearsPage}
 use Rattle.store.specs.Ends.{Commits, CountsOr, SettlesOr}
-use Rattle.store.specs.Opening.{Clears, ClearsUntil}
+use Rattle.store.specs.Opening.{Clears}
 use Rattle.store.proofs.Sweeps.{clears_push}
 
 -- all came down, and the counter could not be written

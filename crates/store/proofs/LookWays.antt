@@ -1,10 +1,10 @@
 -- The ways in which a look ends.
-use Rattle.std.proofs.Common.{◌≡◌, ℕ, ◌+◌, ◌-◌, ◌⊎◌, List, length, Some, None, Ok, Err, Option, sym, refl, ap, ◌∙◌, subst, inl, inr}
+use Rattle.std.proofs.Common.{◌≡◌, ℕ, ◌+◌, ◌-◌, List, length, Some, None, Ok, Err, Option, sym, refl, ap, ◌∙◌, subst, inl, inr}
 use Rattle.std.specs.Option.{option_map}
 use Rattle.medium.specs.Meaning.{Meaning}
 use Rattle.layout.specs.declared.first.FirstPage.{FirstPage}
 use Rattle.layout.specs.declared.record.Record.{Record}
-use Rattle.layout.specs.Pages.{Entry, page_of, records}
+use Rattle.layout.specs.Pages.{page_of, records}
 use Rattle.layout.specs.Walks.{keyed, seen}
 use Rattle.store.specs.declared.refusal.Refusal.{Refusal}
 use Rattle.store.specs.declared.refusal.Refusal.TheVariants.{NoSuchKey}

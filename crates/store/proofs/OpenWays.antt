@@ -1,16 +1,15 @@
 -- The ways in which an opening ends.
-use Rattle.std.proofs.Common.{◌≡◌, ℕ, ◌-◌, ◌<◌, ◌≤◌, ◌⊎◌, List, length, get_or, Ok, Err, Result, sym, refl, ap, ◌∙◌, subst, inl, inr, ⊎_elim}
+use Rattle.std.proofs.Common.{◌≡◌, ℕ, List, get_or, Ok, Err, Result, sym, refl, subst, inl, inr, ⊎_elim}
 use Rattle.medium.specs.declared.fault.MediumFault.{MediumFault}
 use Rattle.medium.specs.Meaning.{Meaning, Settled}
 use Rattle.layout.specs.declared.first.FirstPage.{FirstPage}
 use Rattle.store.specs.declared.refusal.Refusal.{Refusal}
-use Rattle.store.specs.declared.refusal.Refusal.TheVariants.{Medium, Unsound}
+use Rattle.store.specs.declared.refusal.Refusal.TheVariants.{Medium}
 use Rattle.store.specs.declared.refusal.Step.{Step}
 use Rattle.store.specs.declared.refusal.Step.TheVariants.{Read, Write, Settle}
 use Rattle.store.specs.declared.state.Opened.{Opened}
 use Rattle.store.specs.declared.state.State.{State}
 use Rattle.store.specs.declared.state.State.TheVariants.{Open, Shut}
-use Rattle.store.specs.Clearing.{ClearsPage}
 use Rattle.store.specs.Opening.{ChecksPages, Clears, ClearsUntil, later_pages}
 use Rattle.store.specs.Opens.{Begun, Checked, First, OpenStopped, Opens}
 use Rattle.store.specs.Refusals.{during}

@@ -1,7 +1,6 @@
-use Rattle.std.proofs.Common.{get_or, sym, ap, ◌∙◌, arith, rules}
+use Rattle.std.proofs.Common.{get_or, arith, rules}
 use Rattle.std.proofs.lemmas.Int.Digits.{number_more}
 use Rattle.std.proofs.lemmas.List.{take_all}
-use Rattle.octets.specs.Numbers.{big}
 use Rattle.octets.proofs.Numbers.{more_lt, more_fits, part_lt}
 use Rattle.octets.proofs.number.Goals as goal
 

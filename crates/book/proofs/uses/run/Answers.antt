@@ -1,6 +1,6 @@
-use Rattle.std.proofs.Common.{take, vec_items, ap, ◌∙◌, subst, arith}
+use Rattle.std.proofs.Common.{vec_items, subst, arith}
 use Rattle.std.proofs.lemmas.List.{take_all}
-use Rattle.book.specs.Uses.{Moment, Ran, moment}
+use Rattle.book.specs.Uses.{Ran, moment}
 use Rattle.book.proofs.Running.{ran_more}
 use Rattle.book.proofs.Securing.{ran_secure}
 use Rattle.book.proofs.uses.run.Goals as goal

@@ -1,4 +1,4 @@
-use Rattle.std.proofs.Common.{subst, rules}
+use Rattle.std.proofs.Common.{subst}
 use Rattle.octets.specs.Files.{file_of}
 use Rattle.layout.specs.Sound.{Sound}
 use Rattle.file.proofs.Pages.{up_to_more}

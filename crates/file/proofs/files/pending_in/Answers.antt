@@ -1,5 +1,4 @@
-use Rattle.std.proofs.Common.{ap, ◌∙◌, arith, rules}
-use Rattle.octets.specs.Files.{file_of}
+use Rattle.std.proofs.Common.{ap, ◌∙◌, arith}
 use Rattle.layout.specs.Pages.{pending_on}
 use Rattle.file.proofs.Pages.{pending_more, pending_le}
 use Rattle.file.proofs.files.pending_in.Goals as goal

@@ -1,4 +1,3 @@
-use Rattle.std.proofs.Common.{rules}
 use Rattle.medium.proofs.Writes.{reads_written}
 use Rattle.medium.proofs.laws.read_back.Goals as goal
 

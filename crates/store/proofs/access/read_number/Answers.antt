@@ -1,4 +1,4 @@
-use Rattle.std.proofs.Common.{[], ◌∷◌, sym, refl, ap, subst, rules}
+use Rattle.std.proofs.Common.{[], ◌∷◌, refl, subst}
 use Rattle.medium.specs.Meaning as meanings
 use Rattle.store.proofs.Loading.{read_number_is}
 use Rattle.store.proofs.access.read_number.Goals as goal

@@ -1,4 +1,4 @@
-use Rattle.std.proofs.Common.{arith, rules}
+use Rattle.std.proofs.Common.{arith}
 use Rattle.file.proofs.AllRecords.{begun}
 use Rattle.file.proofs.listing.Listing.new.Goals as goal
 

@@ -1,4 +1,4 @@
-use Rattle.std.proofs.Common.{◌+◌, sym, ◌∙◌, arith, rules}
+use Rattle.std.proofs.Common.{◌+◌, sym, ◌∙◌}
 use Rattle.layout.specs.Walks.{rest}
 use Rattle.file.proofs.AllRecords.{begun, ended}
 use Rattle.file.proofs.listing.Listing.next.Goals as goal

@@ -1,4 +1,3 @@
-use Rattle.std.proofs.Common.{rules}
 use Rattle.layout.proofs.Entries.{next_is}
 use Rattle.layout.proofs.walk.Records.next.Goals as goal
 

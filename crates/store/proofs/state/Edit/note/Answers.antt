@@ -1,4 +1,4 @@
-use Rattle.std.proofs.Common.{length, vec_items, ap, ◌∙◌, arith}
+use Rattle.std.proofs.Common.{length, vec_items, ap, arith}
 use Rattle.store.proofs.Adding.{length_added}
 use Rattle.store.proofs.state.Edit.note.Goals as goal
 

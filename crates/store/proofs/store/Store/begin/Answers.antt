@@ -1,4 +1,4 @@
-use Rattle.std.proofs.Common.{refl, arith, rules}
+use Rattle.std.proofs.Common.{refl, arith}
 use Rattle.store.proofs.store.Store.begin.Goals as goal
 
 pub returns-then-first : goal.returns-then-first

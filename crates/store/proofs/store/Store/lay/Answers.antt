@@ -1,4 +1,4 @@
-use Rattle.std.proofs.Common.{length, refl, arith, rules}
+use Rattle.std.proofs.Common.{length, refl, rules}
 use Rattle.store.specs.declared.state.State.TheVariants.{Shut}
 use Rattle.store.specs.Lays.{CanLay}
 use Rattle.store.proofs.LawWays.{lays_empty}

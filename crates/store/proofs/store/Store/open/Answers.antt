@@ -1,4 +1,4 @@
-use Rattle.std.proofs.Common.{◌≡◌, Ok, Err, refl, ◌∙◌, subst, arith, rules}
+use Rattle.std.proofs.Common.{Ok, Err, refl, arith, rules}
 use Rattle.std.proofs.lemmas.Result.{err_from_is_err_and}
 use Rattle.store.specs.declared.state.Opened.{Opened}
 use Rattle.store.specs.declared.state.State.TheVariants.{Open, Shut}

@@ -1,4 +1,4 @@
-use Rattle.std.proofs.Common.{◌≡◌, true, vec_items, vec_len, sym, ap, ◌∙◌, subst, arith, rules}
+use Rattle.std.proofs.Common.{◌≡◌, vec_items, ap, ◌∙◌, arith, rules}
 use Rattle.store.specs.Touches.{added, ascending}
 use Rattle.store.proofs.Adding.{ascending_added, inserted_is}
 use Rattle.store.proofs.touched.Touched.add.Goals as goal
