@@ -1,6 +1,6 @@
 -- Abandoning an edit keeps the store to its book.
 use Rattle.std.proofs.Common.{◌≡◌, ℕ, zero, suc, ◌<◌, Bool, true, false, List, [], ◌∷◌, length, get_or, take, Some, None, Ok, Err, sym, ap, ◌∙◌, subst, inl, inr, ⊎_elim, arith}
-use Rattle.std.specs.List.{AllByRecursion as All}
+use Rattle.std.specs.List.{AllByRecursion}
 use Rattle.std.proofs.lemmas.Bool.{both_ways, cases_Bool, cases_eq}
 use Rattle.octets.specs.Parts.{patched}
 use Rattle.medium.specs.declared.fault.MediumFault.{MediumFault}
@@ -29,7 +29,7 @@ use Rattle.book.proofs.Runs.{number_bad}
 -- an edit in which some pages are yet to be taken back
 pub record Leaving (m : Meaning) (first : FirstPage) (base : ℕ → List ℕ) (v : Values) (touched : List ℕ) : Type 0 where
   pub rests : Rests m first base v
-  pub later : All (Later first.pages) touched
+  pub later : AllByRecursion (Later first.pages) touched
   pub runs : m.stopped ≡ false → Stands m first base × CleanBut m first touched
 
 module _ (m : Meaning) (first : FirstPage) (base : ℕ → List ℕ) (v : Values) where

@@ -1,6 +1,6 @@
 -- Beginning an edit keeps the store to its book.
 use Rattle.std.proofs.Common.{◌≡◌, ℕ, ◌+◌, ◌^◌, ◌<◌, List, [], map, None, Ok, Err, sym, ap, ◌∙◌, subst, inl, inr, arith}
-use Rattle.std.specs.List.{AllByRecursion as All}
+use Rattle.std.specs.List.{AllByRecursion}
 use Rattle.medium.specs.Meaning.{Meaning, Sized}
 use Rattle.layout.specs.declared.first.FirstPage.{FirstPage}
 use Rattle.layout.specs.Pages.{entry_of, page_of, records}
@@ -36,7 +36,7 @@ begins_edit m first touched ts k fits none (base, rests, runs) = (
   base,
   rests,
   fits,
-  subst (All (Later first.pages)) (sym none) tt,
+  subst (AllByRecursion (Later first.pages)) (sym none) tt,
   λ going.
       let now = runs going in
       let later : (key : ℕ) → Later first.pages (page_of first.pages key) = λ key. key_later first.pages key (omega (arith, rests.sound.least, rests.pages)) in (

@@ -1,6 +1,6 @@
 -- A change under a slip keeps the store to its book.
 use Rattle.std.proofs.Common.{◌≡◌, ℕ, ◌+◌, ◌^◌, ◌<◌, ◌≤◌, true, cond, eqb, ltb, List, [], ◌∷◌, ◌++◌, length, Ok, Err, Option, Result, sym, refl, ap, ◌∙◌, subst, inl, inr, arith}
-use Rattle.std.specs.List.{AllByRecursion as All}
+use Rattle.std.specs.List.{AllByRecursion}
 use Rattle.std.proofs.lemmas.List.{append-nil, drop_all}
 use Rattle.std.proofs.lemmas.Bool.{and_from, cases_eq, cond_both, cond-false, eqb-true, lt-ltb, ltb-false, ne_eqb, true≢false}
 use Rattle.octets.specs.Files.{word}
@@ -45,11 +45,11 @@ has_before p q (t ∷ ts) h =
     (λ _. cond_both (ltb q t) _ _ (Has p) (λ _. inr h) (λ _. elim h [ inl e ↦ inl e | inr i ↦ inr (has_before p q ts i) ]))
 
 -- what holds of all of them and of the page added holds of all
-all_added : (P : ℕ → Type 0) (q : ℕ) (ts : List ℕ) → P q → All P ts → All P (added q ts)
+all_added : (P : ℕ → Type 0) (q : ℕ) (ts : List ℕ) → P q → AllByRecursion P ts → AllByRecursion P (added q ts)
 all_added P q [] x h = (x, tt)
 all_added P q (t ∷ ts) x h =
-    cond_both (eqb q t) _ _ (All P) (λ _. h)
-    (λ _. cond_both (ltb q t) _ _ (All P) (λ _. (x, h)) (λ _. (h.0, all_added P q ts x h.1)))
+    cond_both (eqb q t) _ _ (AllByRecursion P) (λ _. h)
+    (λ _. cond_both (ltb q t) _ _ (AllByRecursion P) (λ _. (x, h)) (λ _. (h.0, all_added P q ts x h.1)))
 
 -- a whole page put in place of another
 patched_whole : (page new : List ℕ) → length page ≤ length new → patched page 0 new ≡ new

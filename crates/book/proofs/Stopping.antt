@@ -1,6 +1,6 @@
 -- A call of a use is never refused for a bad run.
 use Rattle.std.proofs.Common.{◌≡◌, ℕ, zero, suc, ◌+◌, ◌-◌, ◌^◌, ◌<◌, ◌≤◌, true, false, ltb, List, [], ◌∷◌, length, get_or, take, Some, Ok, Err, vec_items, Result, sym, refl, ap, ◌∙◌, subst, inl, inr, arith}
-use Rattle.std.specs.List.{AllByRecursion as All}
+use Rattle.std.specs.List.{AllByRecursion}
 use Rattle.std.proofs.lemmas.List.FromFn.{get_or-range_with_len, length-range_with_len}
 use Rattle.std.proofs.lemmas.Bool.{both_ways, ltb-false}
 use Rattle.octets.specs.Numbers.{spell}
@@ -97,7 +97,7 @@ later_at pages i l =
     (omega arith, omega arith)
 
 -- what holds of all holds of each
-all_at : (P : ℕ → Type 0) (qs : List ℕ) (i : ℕ) → All P qs → i < length qs → P (get_or qs i 0)
+all_at : (P : ℕ → Type 0) (qs : List ℕ) (i : ℕ) → AllByRecursion P qs → i < length qs → P (get_or qs i 0)
 all_at P [] i all l = absurd (omega (arith, l))
 all_at P (q ∷ qs) zero all l = all.0
 all_at P (q ∷ qs) (suc i) all l = all_at P qs i all.1 (omega (arith, l))
@@ -311,7 +311,7 @@ module _ {M F : Type 0} (meaning : M → Meaning) (sized : (x : M) → Sized (me
       (looks_stop (meaning a.store.medium) a.store.state (touched_by a.store.edit) k key a.work b.work x kept looks)
 
   -- and so of a run of calls
-  pub ran_stopped : (cs : List (Call F)) (rs : List (Answer F)) (a b : Moment M) (k : Book) → Ran meaning bytes reads cs rs a b → Kept meaning a k → All AsStopped rs
+  pub ran_stopped : (cs : List (Call F)) (rs : List (Answer F)) (a b : Moment M) (k : Book) → Ran meaning bytes reads cs rs a b → Kept meaning a k → AllByRecursion AsStopped rs
   ran_stopped [] [] a b k ran kept = tt
   ran_stopped [] (r ∷ rs) a b k ran kept = absurd ran
   ran_stopped (c ∷ cs) [] a b k ran kept = absurd ran

@@ -1,6 +1,6 @@
 -- How a store stands to its book, at every moment of a use.
 use Rattle.std.specs.Prelude.{◌≡◌, ℕ, ◌+◌, ◌^◌, ◌<◌, ◌≤◌, false, ◌⊎◌, List, [], ◌∷◌, length, None}
-use Rattle.std.specs.List.{AllByRecursion as All}
+use Rattle.std.specs.List.{AllByRecursion}
 use Rattle.octets.specs.Files.{File, word}
 use Rattle.medium.specs.Cuts.{CutFile, shown_file}
 use Rattle.medium.specs.Meaning.{Meaning, Settles}
@@ -70,5 +70,5 @@ Keeps m Shut touched b = Safe m b × (m.stopped ≡ false → Found m b.saved)
 Keeps m (Open first) touched b =
     (base : ℕ → List ℕ) × Rests m first base b.saved × (m.stopped ≡ false → Stands m first base × CleanBut m first [])
 Keeps m (Editing first) touched b =
-    (base : ℕ → List ℕ) × Rests m first base b.saved × (first.counter + 1 < 2 ^ 32) × All (Later first.pages) touched
+    (base : ℕ → List ℕ) × Rests m first base b.saved × (first.counter + 1 < 2 ^ 32) × AllByRecursion (Later first.pages) touched
     × (m.stopped ≡ false → Stands m first base × CleanBut m first touched × Drafts m first b.draft)

@@ -1,6 +1,6 @@
 -- No cut betrays a use: what the book is fed, and what every cut then leaves.
 use Rattle.std.specs.Prelude.{◌≡◌, ℕ, ◌<◌, true, false, ◌⊎◌, List, [], ◌∷◌, length, Some, None, Ok, Err, vec_items, Option, Result}
-use Rattle.std.specs.List.{AllByRecursion as All}
+use Rattle.std.specs.List.{AllByRecursion}
 use Rattle.octets.specs.Files.{File}
 use Rattle.medium.specs.declared.fault.MediumFault.{MediumFault}
 use Rattle.medium.specs.declared.fault.MediumFault.TheVariants.{Stopped}
@@ -112,7 +112,7 @@ pub record Secure {M F : Type 0} (meaning : M → Meaning) (kind : F → ℕ) (b
   -- and whatever a cut then leaves is what the book says
   pub survives : (k : Book) → Kept meaning a k → Survives meaning b (fed_all bytes k cs rs)
   -- no call is refused with 5 but by a medium that refuses as stopped
-  pub stops : (k : Book) → Kept meaning a k → All AsStopped rs
+  pub stops : (k : Book) → Kept meaning a k → AllByRecursion AsStopped rs
   -- after an accepted opening and a cut, a second opening changes no byte
   pub reopens : OpensAlike meaning
   -- after any cut, what the book has from a form is read under it as the value handed in

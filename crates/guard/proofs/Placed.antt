@@ -1,7 +1,7 @@
 -- A record put beside the slots of a draft: what it does to the draft.
 use Rattle.std.proofs.Common.{◌≡◌, ℕ, ◌+◌, ◌^◌, ◌<◌, ◌≤◌, cond, eqb, ◌⊎◌, List, map, length, get_or, take, Some, sym, ap, ◌∙◌, subst, inl, inr, ⊎_elim, arith}
 use Rattle.std.specs.Option.{option_map}
-use Rattle.std.specs.List.{AllByRecursion as All}
+use Rattle.std.specs.List.{AllByRecursion}
 use Rattle.std.proofs.ByRecursion.{All-from_get_or, All-weaker}
 use Rattle.std.proofs.lemmas.List.{take_all}
 use Rattle.std.proofs.lemmas.Bool.{cases_eq, cases_lt, cond-false, cond-true, eq-eqb, ne_eqb}
@@ -82,7 +82,7 @@ module _ (counter pages q : ℕ) (base page : List ℕ) (key : ℕ) (value : Lis
       (room.0, room.1, λ k m n. free_right (take 24 (saved_slots counter page)) ss k (room.2 k m n)) (omega arith) j l
       (omega (arith, (f.own j l).0.2))
 
-  apart_all : All (Apart slot) ss
+  apart_all : AllByRecursion (Apart slot) ss
   apart_all = All-from_get_or (Apart slot) ss (record { offset = 0; length = 0 }) apart_at
 
   entry_at : (s : Slot) → Apart slot s → entry_of mid s ≡ entry_of page s

@@ -1,6 +1,6 @@
 -- Slots in the order of a header as a list: put in, taken out, and looked up by key.
 use Rattle.std.proofs.Common.{◌≡◌, ℕ, zero, suc, ◌+◌, ◌<◌, ◌≤◌, Bool, true, false, cond, eqb, ltb, List, [], ◌∷◌, map, length, Some, None, Option, sym, refl, ap, ◌∙◌, inl, inr, arith}
-use Rattle.std.specs.List.{AllByRecursion as All}
+use Rattle.std.specs.List.{AllByRecursion}
 use Rattle.std.proofs.ByRecursion.{All-from_get_or, All-get_or, All-weaker}
 use Rattle.std.proofs.lemmas.Bool.{cond_both, cond-false, cond-true, eq-eqb, eqb-false, eqb-true, ltb-false, ltb-true, ne_eqb}
 use Rattle.layout.specs.declared.header.Slot.{Slot}
@@ -13,7 +13,7 @@ pub apart_sym : (s t : Slot) → Apart s t → Apart t s
 apart_sym s t (inl h) = inr h
 apart_sym s t (inr h) = inl h
 
-pub all_two : {X : Type 0} (P Q R : X → Type 0) → ((x : X) → P x → Q x → R x) → (xs : List X) → All P xs → All Q xs → All R xs
+pub all_two : {X : Type 0} (P Q R : X → Type 0) → ((x : X) → P x → Q x → R x) → (xs : List X) → AllByRecursion P xs → AllByRecursion Q xs → AllByRecursion R xs
 all_two P Q R f [] p q = tt
 all_two P Q R f (x ∷ xs) p q = (f x p.0 q.0, all_two P Q R f xs p.1 q.1)
 
@@ -21,7 +21,7 @@ module _ (page : List ℕ) where
   -- each slot comes before all that follow it
   abbrev pub Rising : List Slot → Type 0
   Rising [] = Unit {0}
-  Rising (s ∷ ss) = All (Before page s) ss × Rising ss
+  Rising (s ∷ ss) = AllByRecursion (Before page s) ss × Rising ss
 
   pub rising_from : (ss : List Slot) → ((j k : ℕ) → j < k → k < length ss → Before page (at ss j) (at ss k)) → Rising ss
   rising_from [] h = tt
@@ -38,7 +38,7 @@ module _ (page : List ℕ) where
 
   -- no slot has the key
   abbrev pub Absent : ℕ → List Slot → Type 0
-  Absent key ss = All (λ s. key_of page s ≡ key → ⊥) ss
+  Absent key ss = AllByRecursion (λ s. key_of page s ≡ key → ⊥) ss
 
   pub keyed_absent : (key : ℕ) (ss : List Slot) → Absent key ss → keyed key (map (entry_of page) ss) ≡ None
   keyed_absent key [] h = refl
@@ -54,9 +54,9 @@ module _ (page : List ℕ) where
 
   module _ (key : ℕ) where
     -- slots without the first that holds the key
-    pub all_taken_out : (P : Slot → Type 0) (ss : List Slot) → All P ss → All P (taken_out page key ss)
+    pub all_taken_out : (P : Slot → Type 0) (ss : List Slot) → AllByRecursion P ss → AllByRecursion P (taken_out page key ss)
     all_taken_out P [] h = tt
-    all_taken_out P (s ∷ ss) h = cond_both (eqb (key_of page s) key) _ _ (All P) (λ _. h.1) (λ _. (h.0, all_taken_out P ss h.1))
+    all_taken_out P (s ∷ ss) h = cond_both (eqb (key_of page s) key) _ _ (AllByRecursion P) (λ _. h.1) (λ _. (h.0, all_taken_out P ss h.1))
 
     pub rising_taken_out : (ss : List Slot) → Rising ss → Rising (taken_out page key ss)
     rising_taken_out [] r = tt
@@ -92,10 +92,10 @@ module _ (page : List ℕ) where
 
     module _ (new : Slot) where
       -- slots with one more, for the key
-      pub all_put_in : (P : Slot → Type 0) (ss : List Slot) → P new → All P ss → All P (put_in page key new ss)
+      pub all_put_in : (P : Slot → Type 0) (ss : List Slot) → P new → AllByRecursion P ss → AllByRecursion P (put_in page key new ss)
       all_put_in P [] n h = (n, tt)
       all_put_in P (s ∷ ss) n h =
-          cond_both (ltb (key_of page s) key) _ _ (All P) (λ _. (h.0, all_put_in P ss n h.1)) (λ _. (n, h))
+          cond_both (ltb (key_of page s) key) _ _ (AllByRecursion P) (λ _. (h.0, all_put_in P ss n h.1)) (λ _. (n, h))
 
       pub length_put_in : (ss : List Slot) → length (put_in page key new ss) ≡ length ss + 1
       length_put_in [] = refl
@@ -104,7 +104,7 @@ module _ (page : List ℕ) where
           (λ _. let rest = length_put_in ss in omega arith) (λ _. omega arith)
 
       module _ (is : key_of page new ≡ key) where
-        pub rising_put_in : (ss : List Slot) → Absent key ss → All (Apart new) ss → Rising ss → Rising (put_in page key new ss)
+        pub rising_put_in : (ss : List Slot) → Absent key ss → AllByRecursion (Apart new) ss → Rising ss → Rising (put_in page key new ss)
         rising_put_in [] n a r = (tt, tt)
         rising_put_in (s ∷ ss) n a r =
             cond_both (ltb (key_of page s) key) _ _ Rising

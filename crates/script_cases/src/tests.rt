@@ -2,25 +2,26 @@
 use book::Call;
 use form::Item;
 use script::{Named, Script, Step, Use, parse};
+use std::process::Abort;
 use std::test::*;
 
 // A script, read.
-fn read(rt: &HostRuntime, text: &[u8]) -> Result<Script, Fail> {
+fn read(rt: &(impl Abort + AllocGlobal), text: &[u8]) -> Result<Script, Fail> {
     Ok(parse(text, rt.alloc())?)
 }
 
 // How many uses are left of a script, and its bad line, 0 for none.
-fn says(rt: &HostRuntime, text: &[u8], uses: usize, bad: usize) -> Result<(), Fail> {
+fn says(rt: &(impl Abort + AllocGlobal), text: &[u8], uses: usize, bad: usize) -> Result<(), Fail> {
     let script = read(rt, text)?;
-    assert_eq!(script.uses.len(), uses);
-    assert_eq!(script.bad.unwrap_or(0), bad);
+    assert_eq!(rt; script.uses.len(), uses);
+    assert_eq!(rt; script.bad.unwrap_or(0), bad);
     Ok(())
 }
 
 // The last use of a script that has no bad line.
-fn last_use(rt: &HostRuntime, text: &[u8]) -> Result<Use, Fail> {
+fn last_use(rt: &(impl Abort + AllocGlobal), text: &[u8]) -> Result<Use, Fail> {
     let mut script = read(rt, text)?;
-    assert_eq!(script.bad.unwrap_or(0), 0);
+    assert_eq!(rt; script.bad.unwrap_or(0), 0);
     let Some(last) = script.uses.pop() else {
         return Err(Fail::new("no use"));
     };
@@ -28,7 +29,7 @@ fn last_use(rt: &HostRuntime, text: &[u8]) -> Result<Use, Fail> {
 }
 
 // What a line after a use says.
-fn step_of(rt: &HostRuntime, line: &[u8]) -> Result<Step, Fail> {
+fn step_of(rt: &(impl Abort + AllocGlobal), line: &[u8]) -> Result<Step, Fail> {
     let mut text = Vec::new(rt.alloc());
     text.extend_from_slice(b"use memory 4\n")?;
     text.extend_from_slice(line)?;
@@ -40,7 +41,7 @@ fn step_of(rt: &HostRuntime, line: &[u8]) -> Result<Step, Fail> {
 }
 
 // That a line after a use is bad.
-fn bad(rt: &HostRuntime, line: &[u8]) -> Result<(), Fail> {
+fn bad(rt: &(impl Abort + AllocGlobal), line: &[u8]) -> Result<(), Fail> {
     let mut text = Vec::new(rt.alloc());
     text.extend_from_slice(b"use memory 4\nopen\nuse memory 4\n")?;
     text.extend_from_slice(line)?;
@@ -135,7 +136,7 @@ fn puts_and_changes(rt: HostRuntime) -> Result<(), Fail> {
     else {
         return Err(Fail::new("put"));
     };
-    assert!(rt; slip == 3 && key == 4_294_967_295 && value.as_slice() == b"\x0a\xff");
+    assert!(rt; slip == 3 && key == 4_294_967_295 && value.as_slice() == b"\x0a\xff".as_slice());
     let Step::Call {
         call: Call::Change { slip, key, value },
     } = step_of(&rt, b"change 0 007 -")?

@@ -1,14 +1,12 @@
 -- The worked cases, proved.
-use Rattle.std.proofs.Common.{◌≡◌, ℕ, ◌+◌, cond, eqb, List, [], map, Some, None, Option, sym, refl, ap, ◌∙◌, arith}
+use Rattle.std.proofs.Common.{◌≡◌, ℕ, ◌+◌, cond, eqb, List, map, Some, None, sym, refl, ap, ◌∙◌, arith}
 use Rattle.std.specs.Option.{option_map}
-use Rattle.layout.specs.declared.header.Side.{Side}
-use Rattle.layout.specs.declared.header.Side.TheVariants.{A, B}
-use Rattle.layout.specs.Pages.{entry_of, header_of, pending_on, records, side_of, slots_by, valid}
+use Rattle.layout.specs.Pages.{entry_of, header_of, pending_on, side_of, slots_by, valid}
 use Rattle.form.specs.declared.cue.Cue.{Cue}
 use Rattle.form.specs.declared.still.Still.{Still}
 use Rattle.form.specs.Cues.{cue_made}
 use Rattle.form.specs.Stills.{still_made}
-use Rattle.worked.specs.Table.{Numbers, EveryCase}
+use Rattle.worked.specs.Table.{Numbers, EveryCase, EveryRow}
 use Rattle.worked.proofs.Fresh.{four_places}
 
 -- the valid header of a page, by its numbers
@@ -45,11 +43,8 @@ every_case = (
               (
                 refl,
                 (
-                  four_places,
-                  (
-                    (start_600, refl, refl, refl),
-                    ((slide_12, refl, refl, refl), tt),
-                  ),
+                  (start_600, refl, refl, refl),
+                  ((slide_12, refl, refl, refl), tt),
                 ),
               ),
             ),
@@ -59,3 +54,6 @@ every_case = (
     ),
   ),
 )
+
+pub every_row : EveryRow
+every_row = (four_places, tt)

@@ -1,6 +1,6 @@
 -- Four changes of a fresh page, each saved: where their records lie.
 use Rattle.std.proofs.Common.{◌≡◌, ℕ, ◌+◌, List, [], ◌∷◌, map, length, replicate, Some, refl, ap, inl, inr, arith}
-use Rattle.std.specs.List.{AllByRecursion as All}
+use Rattle.std.specs.List.{AllByRecursion}
 use Rattle.std.proofs.ByRecursion.{All-get_or}
 use Rattle.std.proofs.lemmas.Bool.{cases_lt}
 use Rattle.layout.specs.declared.header.Side.{Side}
@@ -51,7 +51,7 @@ fresh = record {
   holds = ap (map (entry_of blank)) blank_slots;
 }
 
-free_all : (ss : List Slot) (k : ℕ) → All (λ s. Covers s k → ⊥) ss → Free ss k
+free_all : (ss : List Slot) (k : ℕ) → AllByRecursion (λ s. Covers s k → ⊥) ss → Free ss k
 free_all ss k a j l c = All-get_or (λ s. Covers s k → ⊥) ss j (record { offset = 0; length = 0 }) l a c
 
 abbrev slot : ℕ → ℕ → Slot

@@ -4,7 +4,6 @@ use Rattle.std.proofs.lemmas.List.{take_all}
 use Rattle.std.proofs.lemmas.Bool.{cases_lt}
 use Rattle.layout.specs.declared.header.Slot.{Slot}
 use Rattle.layout.specs.Pages.{Entry, entry_of, page_of, records, saved_slots}
-use Rattle.layout.specs.Sound.{at}
 use Rattle.layout.specs.Walks.{keyed}
 use Rattle.draft.specs.declared.refusal.PageRefusal.{PageRefusal}
 use Rattle.draft.specs.declared.refusal.PageRefusal.TheVariants.{KeyInDraft, NoSuchKey, DraftFull, NoPlace}
