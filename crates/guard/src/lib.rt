@@ -43,6 +43,7 @@ pub fn laws() -> usize
     ensures replaces { Replaces }
     ensures removes { Removes }
     ensures takes_back { TakesBack }
+    ensures takes_draft_back { TakesDraftBack }
     ensures saves { Saves }
     ensures count { result ≡ 8 }
 {

@@ -19,9 +19,8 @@ settled_leaves m sized only f c p l =
     words_same 256 (f.page p) (m.shown p) (c.sized p l) (sized.full p l) (λ k h. only p k _ (c.possible p k l h))
 
 -- a settled medium cut twice shows what it showed before
-pub settled_cuts : {M : Type 0} (meaning : M → Meaning) → ((m : M) → Sized (meaning m)) → (a x y b : M)
-    → Settled (meaning a) (meaning x) (Ok tt) → CutMedium (meaning x) (meaning y) → CutMedium (meaning y) (meaning b)
-    → (p : ℕ) → p < (meaning a).pages → (meaning b).shown p ≡ (meaning a).shown p
-settled_cuts meaning sized a x y b (runs, still, count, shown, only) c d p l =
-    settled_leaves (meaning y) (sized y) c.only (shown_file (meaning b)) d.left p (omega (arith, count, c.left.count))
-    ∙ settled_leaves (meaning x) (sized x) only (shown_file (meaning y)) c.left p (omega (arith, count)) ∙ shown p
+pub settled_cuts : (m n o q : Meaning) → Settled m n (Ok tt) → Sized n → CutMedium n o → Sized o → CutMedium o q
+    → (p : ℕ) → p < m.pages → q.shown p ≡ m.shown p
+settled_cuts m n o q (runs, still, count, shown, only) n_sized c o_sized d p l =
+    settled_leaves o o_sized c.only (shown_file q) d.left p (omega (arith, count, c.left.count))
+    ∙ settled_leaves n n_sized only (shown_file o) c.left p (omega (arith, count)) ∙ shown p

@@ -2,7 +2,7 @@ use Rattle.std.proofs.Common.{refl}
 use Rattle.guard.proofs.Changed.{puts, removes, replaces}
 use Rattle.guard.proofs.Cleared.{clears}
 use Rattle.guard.proofs.Nearby.{guards}
-use Rattle.guard.proofs.Stages.{begins, saves, takes_back}
+use Rattle.guard.proofs.Stages.{begins, saves, takes_back, takes_draft_back}
 use Rattle.guard.proofs.laws.Goals as goal
 
 pub returns : goal.returns
@@ -14,6 +14,7 @@ returns c = record {
   replaces = replaces;
   removes = removes;
   takes_back = takes_back;
+  takes_draft_back = takes_draft_back;
   saves = saves;
   count = refl;
 }

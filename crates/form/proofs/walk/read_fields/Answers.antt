@@ -1,4 +1,4 @@
-use Rattle.std.proofs.Common.{true, false, sym, ◌∙◌, rules}
+use Rattle.std.proofs.Common.{◌≡◌, ◌≢◌, true, false, length, sym, ◌∙◌, arith, rules}
 use Rattle.std.proofs.lemmas.Result.{err_from_is_err_and}
 use Rattle.std.proofs.lemmas.Bool.{eq-eqb, ne_eqb}
 use Rattle.form.specs.Inverses.{read_at}
@@ -17,7 +17,11 @@ returns-in_err-number c =
     rw (p.1, p.2) (sym c.loop-bit.invariant.1 ∙ read_bad _ _ _ c.loop-bit.left _ _ _ _ c.loop-bit-test.true c.in_err-number.ensures)
 
 pub returns-then-at-value : goal.returns-then-at-value
-returns-then-at-value c = sym c.loop-bit.invariant.1 ∙ read_all _ _ _ _ _ c.loop-bit.values false (c.requires.0 ∙ sym c.loop-bit.auto.values) c.loop-bit-test.false (sym (ne_eqb _ _ c.if-at-value.true))
+returns-then-at-value c =
+    let over : c.loop-bit.at ≢ length c.args.value.now = omega arith in
+    sym c.loop-bit.invariant.1 ∙ read_all _ _ _ _ _ c.loop-bit.values false (c.requires.0 ∙ sym c.loop-bit.auto.values) c.loop-bit-test.false (sym (ne_eqb _ _ over))
 
 pub returns : goal.returns
-returns c = sym c.loop-bit.invariant.1 ∙ read_all _ _ _ _ _ c.loop-bit.values true (c.requires.0 ∙ sym c.loop-bit.auto.values) c.loop-bit-test.false (sym (eq-eqb _ _ c.if-at-value.false))
+returns c =
+    let end : c.loop-bit.at ≡ length c.args.value.now = omega arith in
+    sym c.loop-bit.invariant.1 ∙ read_all _ _ _ _ _ c.loop-bit.values true (c.requires.0 ∙ sym c.loop-bit.auto.values) c.loop-bit-test.false (sym (eq-eqb _ _ end))

@@ -6,6 +6,8 @@ pub returns : goal.returns
 returns g c = record {
   steps = (c.settle.new.self, c.cut.new.self, search rules, search rules, search rules, search rules, search rules);
   unchanged =
-      settled_cuts g.M.Medium.meaning g.M.Medium.sized c.args.medium.now c.settle.new.self c.cut.new.self _
-      (search rules) (search rules) (search rules);
+      settled_cuts (g.M.Medium.meaning c.args.medium.now) (g.M.Medium.meaning c.settle.new.self)
+      (g.M.Medium.meaning c.cut.new.self) (g.M.Medium.meaning c.cut-2.new.self)
+      c.in_ok-settle.ensures (g.M.Medium.sized c.settle.new.self) c.cut.ensures.rule
+      (g.M.Medium.sized c.cut.new.self) c.cut-2.ensures.rule;
 }
