@@ -34,7 +34,8 @@ pub fn changes() -> u8
 }
 
 // How many laws stand here: whatever an open edit has left of a page, word by word, reads as last saved; clearing a number
-// that was never saved keeps what is saved; and what beginning, changing, taking back and saving do to a page's draft.
+// that was never saved keeps what is saved; and what beginning, changing, taking back and saving do to a page's draft. Of taking
+// back there are two clauses, of the header and of the draft: they count as one.
 pub fn laws() -> usize
     ensures guards { Guards }
     ensures clears { Clears }
