@@ -1,6 +1,6 @@
 -- What the code's records and walks stand for.
-use Rattle.std.specs.Prelude.{ℕ, ◌-◌, ◌<◌, cond, List, [], ◌∷◌, map, Some, None, Option, ◌==◌}
-use Rattle.std.specs.List.{range_with_len}
+use Rattle.std.specs.Prelude.{ℕ, ◌-◌, ◌<◌, List, map, Option, ◌==◌}
+use Rattle.std.specs.List.{find, range_with_len}
 use Rattle.layout.specs.declared.record.Record.{Record}
 use Rattle.layout.specs.declared.walk.Records.{Records}
 use Rattle.layout.specs.declared.header.Header.{Header}
@@ -17,8 +17,7 @@ rest w = map (entry_of w.page.now) (map (slot_of w.page.now w.header.side) (rang
 
 -- the first entry with a key
 abbrev pub keyed : ℕ → List Entry → Option Entry
-keyed key [] = None
-keyed key (e ∷ es) = cond (e.key == key) (Some e) (keyed key es)
+keyed key es = find (λ e. e.key == key) es
 
 -- what a page's slot k must keep: it is the page's own, and every slot before it comes before it
 abbrev pub SlotFits : ℕ → ℕ → List ℕ → Header → ℕ → Type 0

@@ -20,17 +20,6 @@ fn numbers_sound(page: &[u8], counter: u32) -> bool
     a as u64 <= most && b as u64 <= most && (a != b || a == 0)
 }
 
-// Whether a slot lies in the content and holds a key of page q.
-fn slot_sound(page: &[u8], slot: Slot, first: FirstPage, q: usize) -> bool
-    ensures { Decides result (Own first.pages q page.now slot) }
-{
-    slot.offset >= 208
-        && slot.length >= 4
-        && slot.length <= 204
-        && slot.offset <= 1024 - slot.length
-        && first.page_of(Record::read(page, slot).key) == q
-}
-
 // Whether two slots share no byte and the first holds the lesser key.
 fn before(page: &[u8], s: Slot, t: Slot) -> bool
     ensures { Decides result (Before page.now s t) }
@@ -41,40 +30,49 @@ fn before(page: &[u8], s: Slot, t: Slot) -> bool
         && Record::read(page, s).key < Record::read(page, t).key
 }
 
-// Whether every slot before slot k shares no byte with it and holds a lesser key.
-fn slot_follows(page: &[u8], header: Header, k: u16) -> bool
-    ensures { Decides result ((j : ℕ) → j < k → Before page.now (slot_of page.now header.side j) (slot_of page.now header.side k)) }
-{
-    let slot = header.slot(page, k);
-    for j in 0..k {
-        if !before(page, header.slot(page, j), slot) {
-            return false;
-        }
-    }
-    true
+// A page with the header that counts: page q of a file that begins with this first page.
+#[derive(Clone, Copy)]
+struct Counted<'a> {
+    page: &'a [u8],
+    header: Header,
+    first: FirstPage,
+    q: usize,
 }
 
-// Whether slot k is the page's own and follows those before it.
-fn slot_fits(page: &[u8], header: Header, k: u16, first: FirstPage, q: usize) -> bool
-    ensures { Decides result (SlotFits first.pages q page.now header k) }
-{
-    slot_sound(page, header.slot(page, k), first, q) && slot_follows(page, header, k)
-}
+impl<'a> Counted<'a> {
+    // Whether a slot lies in the content and holds a key of this page.
+    fn owns(&self, slot: Slot) -> bool
+        ensures { Decides result (Own self.now.first.pages self.now.q self.now.page.now slot) }
+    {
+        slot.offset >= 208
+            && slot.length >= 4
+            && slot.length <= 204
+            && slot.offset <= 1024 - slot.length
+            && self.first.page_of(Record::read(self.page, slot).key) == self.q
+    }
 
-// Whether the slots of a header that may count fit the page.
-fn slots_sound(page: &[u8], header: Header, first: FirstPage, q: usize) -> bool
-    ensures { Decides result (Fits first.pages q page.now (slots page.now header)) }
-{
-    // before any slot is read: slot 24 of header A would be header B's number
-    if header.count > 24 {
-        return false;
+    // Whether every slot before slot k shares no byte with it and holds a lesser key.
+    fn follows(&self, k: u16) -> bool
+        ensures { let slot = slot_of self.now.page.now self.now.header.side in Decides result ((j : ℕ) → j < k → Before self.now.page.now (slot j) (slot k)) }
+    {
+        let slot = self.header.slot(self.page, k);
+        (0..k).all(|j| before(self.page, self.header.slot(self.page, j), slot))
     }
-    for k in 0..header.count {
-        if !slot_fits(page, header, k, first, q) {
-            return false;
-        }
+
+    // Whether slot k is the page's own and follows those before it.
+    fn slot_fits(&self, k: u16) -> bool
+        ensures { Decides result (SlotFits self.now.first.pages self.now.q self.now.page.now self.now.header k) }
+    {
+        self.owns(self.header.slot(self.page, k)) && self.follows(k)
     }
-    true
+
+    // Whether the header's slots fit the page.
+    fn fits(&self) -> bool
+        ensures { Decides result (Fits self.now.first.pages self.now.q self.now.page.now (slots self.now.page.now self.now.header)) }
+    {
+        // before any slot is read: slot 24 of header A would be header B's number
+        self.header.count <= 24 && (0..self.header.count).all(|k| self.slot_fits(k))
+    }
 }
 
 // Whether page q is sound. What is found, and the records of a sound page, rest on nothing but the two edit numbers, the
@@ -83,11 +81,6 @@ pub fn is_sound(page: &[u8], first: FirstPage, q: usize) -> bool
     ensures rests { RestsOnHeld }
     ensures exactly { Decides result (Sound first.counter first.pages q page.now) }
 {
-    if !numbers_sound(page, first.counter) {
-        return false;
-    }
-    match valid(page, first.counter) {
-        Some(header) => slots_sound(page, header, first, q),
-        None => true,
-    }
+    numbers_sound(page, first.counter)
+        && valid(page, first.counter).is_none_or(|header| Counted { page, header, first, q }.fits())
 }

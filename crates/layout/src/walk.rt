@@ -1,5 +1,6 @@
 // Going over the records of a page.
-ghost use Rattle.std.specs.Prelude.{◌≡◌, [], ◌∷◌, MatchOption};
+ghost use Rattle.std.specs.Prelude.{◌≡◌};
+ghost use Rattle.std.specs.Iterator.{YieldsFirstBy, item_count};
 ghost use Rattle.std.specs.Option.{option_map};
 ghost use Rattle.layout.specs.Pages.{records};
 ghost use Rattle.layout.specs.Walks.{seen, rest, keyed};
@@ -20,25 +21,28 @@ impl<'a> Records<'a> {
     pub fn new(page: &'a [u8], counter: u32) -> Records<'a>
         ensures { rest result ≡ records counter page.now }
     {
-        let header = match valid(page, counter) {
-            Some(header) => header,
-            None => Header {
-                side: Side::A,
-                number: 0,
-                count: 0,
-            },
-        };
+        let header = valid(page, counter).unwrap_or(Header {
+            side: Side::A,
+            number: 0,
+            count: 0,
+        });
         Records {
             page,
             header,
             next: 0,
         }
     }
+}
 
-    // The next record, in the order of the slots.
-    pub fn next(&mut self) -> Option<Record<'a>>
-        ensures { MatchOption result ((rest self.old ≡ []) × (rest self.new ≡ [])) (λ x. rest self.old ≡ seen x ∷ rest self.new) }
-    {
+// In the order of the slots.
+impl<'a> Iterator for Records<'a> {
+    type Item = Record<'a>;
+
+    ghost next_gives = { YieldsFirstBy seen rest };
+
+    ghost remaining = { item_count rest };
+
+    fn next(&mut self) -> Option<Record<'a>> {
         let k = self.next;
         if k >= self.header.count {
             return None;
@@ -54,11 +58,5 @@ impl<'a> Records<'a> {
 pub fn find<'a>(page: &'a [u8], counter: u32, key: u32) -> Option<Record<'a>>
     ensures { option_map seen result ≡ keyed key (records counter page.now) }
 {
-    let mut records = Records::new(page, counter);
-    while let Some(record) = records.next() {
-        if record.key == key {
-            return Some(record);
-        }
-    }
-    None
+    Records::new(page, counter).find(|record| record.key == key)
 }
