@@ -1,5 +1,5 @@
 -- Pages that agree in the bytes that one of them holds, and have the valid header on one side, are read alike.
-use Rattle.std.proofs.Common.{◌≡◌, ℕ, ◌<◌, ◌≤◌, ◌⊎◌, List, [], map, length, get_or, Some, Option, sym, ap, ◌∙◌, subst, inl, inr, arith, MatchOption}
+use Rattle.std.proofs.Common.{◌≡◌, ℕ, ◌<◌, ◌≤◌, ◌⊎◌, List, map, length, get_or, Some, Option, sym, ap, ◌∙◌, subst, inl, inr, arith, MatchOption}
 use Rattle.layout.specs.declared.header.Side.{Side}
 use Rattle.layout.specs.declared.header.Header.{Header}
 use Rattle.layout.specs.Pages.{count_of, slot_of, header_of, slots_by, saved_slots, valid, entry_of, records}

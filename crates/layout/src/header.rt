@@ -5,21 +5,21 @@ ghost use Rattle.layout.specs.Pages.{start, header_of, slot_of, pending_on, vali
 use octets::{Width, number};
 
 // Which of a page's two headers.
-#[derive(Clone, Copy)]
+#[derive(Clone, Copy, PartialEq, Eq, Debug)]
 pub enum Side {
     A,
     B,
 }
 
 // Where a record lies in its page: its first byte and how many there are, its key included.
-#[derive(Clone, Copy)]
+#[derive(Clone, Copy, PartialEq, Eq, Debug)]
 pub struct Slot {
     pub offset: u16,
     pub length: u16,
 }
 
 // A header without its slots: its edit number, 0 for none, and how many records it has.
-#[derive(Clone, Copy)]
+#[derive(Clone, Copy, PartialEq, Eq, Debug)]
 pub struct Header {
     pub side: Side,
     pub number: u32,
@@ -86,15 +86,8 @@ pub fn pending(page: &[u8], counter: u32) -> usize
 {
     // one more than the counter may not fit its type
     let next = counter as u64 + 1;
-    let a = if Header::read(page, Side::A).number as u64 == next {
-        1
-    } else {
-        0
-    };
-    let b = if Header::read(page, Side::B).number as u64 == next {
-        1
-    } else {
-        0
-    };
-    a + b
+    [Side::A, Side::B]
+        .iter()
+        .filter(|side| Header::read(page, **side).number as u64 == next)
+        .count()
 }

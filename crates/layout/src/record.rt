@@ -7,7 +7,7 @@ use super::header::Slot;
 use octets::{Width, number, part};
 
 // A record as it is read, its value lent from the page.
-#[derive(Clone, Copy)]
+#[derive(Clone, Copy, PartialEq, Eq, Debug)]
 pub struct Record<'a> {
     pub key: u32,
     pub slot: Slot,
