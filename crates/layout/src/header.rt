@@ -1,8 +1,9 @@
 // The two headers of a page and their slots.
 ghost use Rattle.std.specs.Prelude.{◌≡◌};
-ghost use Rattle.layout.specs.Pages.{start, header_of, slot_of, pending_on, valid};
+ghost use Rattle.layout.specs.Pages.{start, header_of, rank, slot_of, pending_on, valid};
 
 use octets::{Width, number};
+use std::cmp::Ordering;
 
 // Which of a page's two headers.
 #[derive(Clone, Copy, PartialEq, Eq, Debug)]
@@ -51,6 +52,17 @@ impl Header {
         }
     }
 
+    // The edit number if it counts, from 1 to the counter; else 0.
+    fn rank(&self, counter: u32) -> u32
+        ensures { result ≡ rank counter self.now.number }
+    {
+        if self.number <= counter {
+            self.number
+        } else {
+            0
+        }
+    }
+
     // The header's slot k, counted from 0.
     pub fn slot(&self, page: &[u8], k: u16) -> Slot
         ensures { result ≡ slot_of page.now self.now.side k }
@@ -69,14 +81,10 @@ pub fn valid(page: &[u8], counter: u32) -> Option<Header>
 {
     let a = Header::read(page, Side::A);
     let b = Header::read(page, Side::B);
-    let rank_a = if a.number <= counter { a.number } else { 0 };
-    let rank_b = if b.number <= counter { b.number } else { 0 };
-    if rank_b < rank_a {
-        Some(a)
-    } else if rank_a < rank_b {
-        Some(b)
-    } else {
-        None
+    match a.rank(counter).cmp(&b.rank(counter)) {
+        Ordering::Greater => Some(a),
+        Ordering::Less => Some(b),
+        Ordering::Equal => None,
     }
 }
 

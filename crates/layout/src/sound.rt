@@ -82,5 +82,11 @@ pub fn is_sound(page: &[u8], first: FirstPage, q: usize) -> bool
     ensures exactly { Decides result (Sound first.counter first.pages q page.now) }
 {
     numbers_sound(page, first.counter)
-        && valid(page, first.counter).is_none_or(|header| Counted { page, header, first, q }.fits())
+        && valid(page, first.counter).is_none_or(|header| Counted {
+            page,
+            header,
+            first,
+            q,
+        }
+        .fits())
 }

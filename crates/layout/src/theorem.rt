@@ -5,5 +5,4 @@ ghost use Rattle.layout.specs.Held.{RestsOnHeld};
 // changes no such byte changes no saved record: its proof cites this.
 pub fn rests_on_held()
     ensures { RestsOnHeld }
-{
-}
+{}
