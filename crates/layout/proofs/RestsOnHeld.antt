@@ -1,11 +1,11 @@
 -- Pages that agree in the bytes that one of them holds, and have the valid header on one side, are read alike.
-use Rattle.std.proofs.Common.{◌≡◌, ℕ, ◌<◌, ◌≤◌, ◌⊎◌, List, map, length, get_or, Some, Option, sym, ap, ◌∙◌, subst, inl, inr, arith, MatchOption}
+use Rattle.std.proofs.Common.{◌≡◌, ℕ, ◌<◌, ◌≤◌, ◌⊎◌, List, [], map, length, get_or, Some, Option, sym, ap, ◌∙◌, subst, inl, inr, arith, MatchOption}
 use Rattle.layout.specs.declared.header.Side.{Side}
 use Rattle.layout.specs.declared.header.Header.{Header}
 use Rattle.layout.specs.Pages.{count_of, slot_of, header_of, slots_by, saved_slots, valid, entry_of, records}
 use Rattle.layout.specs.Sound.{Fits, Numbered, Sound}
 use Rattle.layout.specs.Held.{InHeader, Covers, Held, Agree, RestsOnHeld}
-use Rattle.layout.proofs.Fitting.{fits_none, length_slots}
+use Rattle.layout.proofs.Fitting.{length_slots}
 use Rattle.layout.proofs.Sides.{Both, both_from_numbers}
 use Rattle.layout.proofs.HeldSide.{OnSide, side_count, side_entries, side_fits, side_back}
 
@@ -23,6 +23,10 @@ module _ (counter : ℕ) (page : List ℕ) (s : Side) (v : valid counter page �
 
   pub saved_count : length (saved_slots counter page) ≡ count_of page s
   saved_count = ap (λ o. length (slots_by page o)) v ∙ length_slots page (header_of page s)
+
+-- the empty list of slots fits any page
+pub fits_none : (pages q : ℕ) (page : List ℕ) → Fits pages q page []
+fits_none pages q page = record { few = omega arith; own = λ k l. absurd (omega arith); ordered = λ j k less l. absurd (omega arith) }
 
 -- the edit numbers may differ, so long as the valid header is on one side
 module _ (counter : ℕ) (a b : List ℕ) (long : length b ≡ length a) (same : (k : ℕ) → Held counter a k → get_or b k 0 ≡ get_or a k 0) where

@@ -9,6 +9,9 @@ use super::first::FirstPage;
 use super::header::{Header, Side, Slot, valid};
 use super::record::Record;
 
+// How many slots a header has room for.
+const SLOTS: u16 = 24;
+
 // Whether no number passes the counter by more than one, and the two differ unless both are 0.
 fn numbers_sound(page: &[u8], counter: u32) -> bool
     ensures { Decides result (Numbered counter page.now) }
@@ -71,7 +74,7 @@ impl<'a> Counted<'a> {
         ensures { Decides result (Fits self.now.first.pages self.now.q self.now.page.now (slots self.now.page.now self.now.header)) }
     {
         // before any slot is read: slot 24 of header A would be header B's number
-        self.header.count <= 24 && (0..self.header.count).all(|k| self.slot_fits(k))
+        self.header.count <= SLOTS && (0..self.header.count).all(|k| self.slot_fits(k))
     }
 }
 
@@ -82,11 +85,14 @@ pub fn is_sound(page: &[u8], first: FirstPage, q: usize) -> bool
     ensures exactly { Decides result (Sound first.counter first.pages q page.now) }
 {
     numbers_sound(page, first.counter)
-        && valid(page, first.counter).is_none_or(|header| Counted {
-            page,
-            header,
-            first,
-            q,
+        && match valid(page, first.counter) {
+            Some(header) => Counted {
+                page,
+                header,
+                first,
+                q,
+            }
+            .fits(),
+            None => true,
         }
-        .fits())
 }

@@ -5,8 +5,8 @@ use Rattle.layout.proofs.Decided.{all_below, decides_same, fails}
 use Rattle.layout.proofs.Fitting.{few_from, slot_from, fits_from}
 use Rattle.layout.proofs.sound.Counted.fits.Goals as goal
 
-pub returns-then-self-le24 : goal.returns-then-self-le24
-returns-then-self-le24 c =
+pub returns-then-self-le-SLOTS : goal.returns-then-self-le-SLOTS
+returns-then-self-le-SLOTS c =
     let s = c.args.self.now in
     let P : ℕ → Type 0 = λ k. SlotFits s.first.pages s.q s.page.now s.header k in
     decides_same c.all.result
@@ -15,7 +15,7 @@ returns-then-self-le24 c =
     (λ x q k. search (rules, tests)) (λ x q k. search (rules, tests))))
     (fits_from s.first.pages s.q s.page.now s.header (omega arith)) (slot_from s.first.pages s.q s.page.now s.header)
 
-pub returns-else-self-le24 : goal.returns-else-self-le24
-returns-else-self-le24 c =
+pub returns-else-self-le-SLOTS : goal.returns-else-self-le-SLOTS
+returns-else-self-le-SLOTS c =
     let s = c.args.self.now in
     fails _ (search rules) (λ f. omega (arith, few_from s.first.pages s.q s.page.now s.header f))
