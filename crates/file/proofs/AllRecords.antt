@@ -1,14 +1,14 @@
 -- Going over all records of a file, and counting them.
-use Rattle.std.proofs.Common.{◌≡◌, ℕ, ◌+◌, ◌-◌, ◌<◌, ◌≤◌, List, [], ◌∷◌, ◌++◌, map, length, Some, None, Option, sym, ap, ◌∙◌, arith}
+use Rattle.std.proofs.Common.{◌≡◌, ℕ, ◌+◌, ◌-◌, ◌<◌, List, [], ◌∷◌, ◌++◌, map, length, sum_by, Some, None, Option, MatchOption, sym, ap, ◌∙◌}
 use Rattle.std.specs.List.{range_with_len, flat_map}
-use Rattle.std.proofs.lemmas.List.{length-map, length-append, flat_map_more}
+use Rattle.std.proofs.lemmas.List.{length-map}
+use Rattle.std.proofs.lemmas.List.Concat.{length-flat_map}
 use Rattle.layout.specs.declared.header.Header.{Header}
 use Rattle.layout.specs.Pages.{Entry, entry_of, slots, slots_by, records, valid}
 use Rattle.octets.specs.Files.{file_of}
 use Rattle.file.specs.Files.{page_records, file_records, later_pages}
 use Rattle.layout.proofs.Entries.{counting_next}
 use Rattle.layout.proofs.Fitting.{length_slots}
-use Rattle.file.proofs.Pages.{later_more}
 
 module _ (bytes : List ℕ) (counter pages : ℕ) where
   -- the records of the pages from page q on
@@ -34,19 +34,16 @@ taken q es fs e after p = ap (λ xs. map (λ x. (q, x)) xs ++ after) p
 pub ended : (q : ℕ) (es : List Entry) (after : List (ℕ × Entry)) → es ≡ [] → map (λ x. (q, x)) es ++ after ≡ after
 ended q es after p = ap (λ xs. map (λ x. (q, x)) xs ++ after) p
 
--- a page has as many records as its valid header says
-pub count_none : (counter : ℕ) (page : List ℕ) (o : Option Header) → o ≡ valid counter page → o ≡ None → 0 ≡ length (records counter page)
-count_none counter page o v e = sym (ap (λ x. length (map (entry_of page) (slots_by page x))) (sym v ∙ e))
+-- a page has as many records as its valid header says, none if it has no valid header
+pub counted : (counter : ℕ) (page : List ℕ) (o : Option Header) (n : ℕ) (Told : Header → Type 0) → o ≡ valid counter page → MatchOption o (n ≡ 0) Told
+    → ((h : Header) → Told h → n ≡ h.count) → n ≡ length (records counter page)
+counted counter page None n Told v e is = e ∙ ap (λ o. length (map (entry_of page) (slots_by page o))) v
+counted counter page (Some h) n Told v t is =
+    is h t ∙ sym (length-map (slots page h) (entry_of page) ∙ length_slots page h) ∙ ap (λ o. length (map (entry_of page) (slots_by page o))) v
 
-pub count_some : (counter : ℕ) (page : List ℕ) (o : Option Header) (h : Header) → o ≡ valid counter page → o ≡ Some h → h.count ≡ length (records counter page)
-count_some counter page o h v e =
-    sym (ap (λ x. length (map (entry_of page) (slots_by page x))) (sym v ∙ e) ∙ length-map (slots page h) (entry_of page) ∙ length_slots page h)
-
-pub count_more : (bytes : List ℕ) (counter q n k : ℕ) (page : List ℕ) → 1 ≤ q → n ≡ length (file_records bytes counter q) → page ≡ (file_of bytes).page q → k ≡ length (records counter page)
-    → n + k ≡ length (file_records bytes counter (q + 1))
-count_more bytes counter q n k page h e p v =
-    let more : file_records bytes counter (q + 1) ≡ file_records bytes counter q ++ page_records bytes counter q =
-    ap (flat_map (page_records bytes counter)) (later_more q h) ∙ sym (flat_map_more (page_records bytes counter) [] (later_pages q) q) in
-    let here : k ≡ length (page_records bytes counter q) =
-    v ∙ ap (λ x. length (records counter x)) p ∙ sym (length-map (records counter ((file_of bytes).page q)) (λ x. (q, x))) in
-    omega (arith, ap length more, length-append (file_records bytes counter q) (page_records bytes counter q))
+-- a file has as many records as its pages have together
+pub count_by_pages : (bytes : List ℕ) (counter pages : ℕ)
+    → sum_by (λ q. length (records counter ((file_of bytes).page q))) (later_pages pages) ≡ length (file_records bytes counter pages)
+count_by_pages bytes counter pages =
+    sym (length-flat_map (page_records bytes counter) (later_pages pages)
+    ∙ (λ i. sum_by (λ q. length-map {B = ℕ × Entry} (records counter ((file_of bytes).page q)) (λ e. (q, e)) i) (later_pages pages)))

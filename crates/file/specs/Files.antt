@@ -2,7 +2,7 @@
 use Rattle.std.specs.Prelude.{◌≡◌, ℕ, ◌-◌, ◌<◌, ◌≤◌, List, map, Some, None, Ok, Err, sum_by, Option, Result}
 use Rattle.std.specs.List.{range_with_len, flat_map}
 use Rattle.octets.specs.Files.{file_of}
-use Rattle.layout.specs.declared.first.FirstPage.{FirstPage}
+use Rattle.file.specs.declared.files.ShowFile.{ShowFile}
 use Rattle.file.specs.declared.refusal.FileRefusal.{FileRefusal}
 use Rattle.file.specs.declared.refusal.FileRefusal.TheVariants.{TooFewPages, NotAShowFile, UnsoundPage}
 use Rattle.layout.specs.Pages.{Entry, pending_on, records}
@@ -31,10 +31,11 @@ Lowest bytes counter pages (Some q) =
     (1 ≤ q) × (q < pages) × (Sound counter pages q ((file_of bytes).page q) → ⊥)
     × ((j : ℕ) → 1 ≤ j → j < q → Sound counter pages j ((file_of bytes).page j))
 
--- what checking a file answers: what its first page tells, if it is sound; else what is wrong, of unsound pages the lowest
-abbrev pub Opens : List ℕ → Result FirstPage FileRefusal → Type 0
-Opens bytes (Ok first) =
-    SoundFile (file_of bytes) × (first.pages ≡ pages_of ((file_of bytes).page 0)) × (first.counter ≡ counter_of ((file_of bytes).page 0))
+-- what checking a file answers: its bytes and what its first page tells, if it is sound; else what is wrong, of unsound pages the lowest
+abbrev pub Opens : List ℕ → Result ShowFile FileRefusal → Type 0
+Opens bytes (Ok f) =
+    SoundFile (file_of bytes) × (f.bytes.now ≡ bytes) × (f.first.pages ≡ pages_of ((file_of bytes).page 0))
+    × (f.first.counter ≡ counter_of ((file_of bytes).page 0))
 Opens bytes (Err TooFewPages) = (file_of bytes).count < 2
 Opens bytes (Err NotAShowFile) = (2 ≤ (file_of bytes).count) × (FirstSound (file_of bytes).count ((file_of bytes).page 0) → ⊥)
 Opens bytes (Err (UnsoundPage q)) =

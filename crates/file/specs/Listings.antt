@@ -15,4 +15,4 @@ listed x = (x.0, seen x.1)
 abbrev pub left : Listing → List (ℕ × Entry)
 left l =
     map (λ e. (l.page, e)) (rest l.records)
-    ++ flat_map (page_records l.bytes.now l.first.counter) (range_with_len (l.page + 1) (l.first.pages - (l.page + 1)))
+    ++ flat_map (page_records l.file.bytes.now l.file.first.counter) (range_with_len (l.page + 1) (l.file.first.pages - (l.page + 1)))

@@ -1,34 +1,18 @@
 // Opening a show file and reading all of it.
-ghost use Rattle.std.specs.Prelude.{◌≡◌, ◌*◌};
+ghost use Rattle.std.specs.Prelude.{◌≡◌, ◌*◌, length};
 ghost use Rattle.octets.specs.Parts.{part};
-ghost use Rattle.file.specs.Files.{Opens, Lowest, pending_in};
-ghost use Rattle.file.specs.Refusals.{refusal_number, refusal_page};
+ghost use Rattle.layout.specs.Pages.{records};
+ghost use Rattle.file.specs.Files.{Opens, Lowest, pending_in, file_records};
 
 use super::refusal::FileRefusal;
-use layout::{FirstPage, is_sound, pending};
+use layout::{FirstPage, is_sound, pending, valid};
 use octets::part;
 
-impl FileRefusal {
-    // The number by which it is known.
-    pub fn number(&self) -> u8
-        ensures { result ≡ refusal_number self.now }
-    {
-        match self {
-            FileRefusal::TooFewPages => 2,
-            FileRefusal::NotAShowFile => 3,
-            FileRefusal::UnsoundPage { .. } => 4,
-        }
-    }
-
-    // The page that it names, 0 where it names none.
-    pub fn page(&self) -> usize
-        ensures { result ≡ refusal_page self.now }
-    {
-        match self {
-            FileRefusal::UnsoundPage { page } => *page,
-            _ => 0,
-        }
-    }
+// The bytes of a show file, and what its first page tells.
+#[derive(Clone, Copy)]
+pub struct ShowFile<'a> {
+    pub bytes: &'a [u8],
+    pub first: FirstPage,
 }
 
 // Page q of a file: 1,024 bytes, fewer where the file ends within it, and none past its end.
@@ -38,42 +22,52 @@ pub fn page_at(bytes: &[u8], q: usize) -> &[u8]
     part(bytes, q.saturating_mul(1024), 1024)
 }
 
-// The lowest page after the first that is not sound.
-fn lowest_unsound(bytes: &[u8], first: FirstPage) -> Option<usize>
-    ensures { Lowest bytes.now first.counter first.pages result }
+// How many records a page has.
+fn count_on(page: &[u8], counter: u32) -> u16
+    ensures { result ≡ length (records counter page.now) }
 {
-    for q in 1..first.pages {
-        if !is_sound(page_at(bytes, q), first, q) {
-            return Some(q);
+    valid(page, counter).map_or(0, |header| header.count)
+}
+
+impl<'a> ShowFile<'a> {
+    // Checks a file: it opens if its first page is read and every other page is sound, else this says why it is refused.
+    pub fn check(bytes: &'a [u8]) -> Result<ShowFile<'a>, FileRefusal>
+        ensures { Opens bytes.now result }
+    {
+        let count = bytes.len() / 1024;
+        if count < 2 {
+            return Err(FileRefusal::TooFewPages);
+        }
+        let first = FirstPage::read(page_at(bytes, 0), count).ok_or(FileRefusal::NotAShowFile)?;
+        let file = ShowFile { bytes, first };
+        match file.lowest_unsound() {
+            Some(page) => Err(FileRefusal::UnsoundPage { page }),
+            None => Ok(file),
         }
     }
-    None
-}
 
-// Checks a file: what its first page tells if it is sound, else why it is refused.
-pub fn check_file(bytes: &[u8]) -> Result<FirstPage, FileRefusal>
-    ensures { Opens bytes.now result }
-{
-    let count = bytes.len() / 1024;
-    if count < 2 {
-        return Err(FileRefusal::TooFewPages);
+    // The lowest page after the first that is not sound.
+    fn lowest_unsound(&self) -> Option<usize>
+        ensures { Lowest self.now.bytes.now self.now.first.counter self.now.first.pages result }
+    {
+        (1..self.first.pages).find(|q| !is_sound(page_at(self.bytes, *q), self.first, *q))
     }
-    let Some(first) = FirstPage::read(page_at(bytes, 0), count) else {
-        return Err(FileRefusal::NotAShowFile);
-    };
-    match lowest_unsound(bytes, first) {
-        Some(page) => Err(FileRefusal::UnsoundPage { page }),
-        None => Ok(first),
-    }
-}
 
-// How many edit numbers of a file are one more than the counter, those that an opening clears.
-pub fn pending_in(bytes: &[u8], first: FirstPage) -> usize
-    ensures { result ≡ pending_in bytes.now first.counter first.pages }
-{
-    let mut n: usize = 0;
-    for q in 1..first.pages {
-        n += pending(page_at(bytes, q), first.counter);
+    // How many edit numbers are one more than the counter, those that an opening clears.
+    pub fn pending(&self) -> usize
+        ensures { result ≡ pending_in self.now.bytes.now self.now.first.counter self.now.first.pages }
+    {
+        (1..self.first.pages)
+            .map(|q| pending(page_at(self.bytes, q), self.first.counter))
+            .sum()
     }
-    n
+
+    // How many records the file has.
+    pub fn count_records(&self) -> usize
+        ensures { result ≡ length (file_records self.now.bytes.now self.now.first.counter self.now.first.pages) }
+    {
+        (1..self.first.pages)
+            .map(|q| usize::from(count_on(page_at(self.bytes, q), self.first.counter)))
+            .sum()
+    }
 }

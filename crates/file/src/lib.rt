@@ -6,7 +6,6 @@ mod listing;
 mod listings;
 mod refusal;
 
-pub use files::{check_file, page_at, pending_in};
+pub use files::{ShowFile, page_at};
 pub use listing::Listing;
-pub use listings::count_records;
 pub use refusal::FileRefusal;

@@ -1,61 +1,45 @@
 // Going over all records of a file: pages in order, and in a page by slot, which on a sound page is by key.
-ghost use Rattle.std.specs.Prelude.{◌≡◌, [], ◌∷◌, length, MatchOption};
+ghost use Rattle.std.specs.Prelude.{◌≡◌};
+ghost use Rattle.std.specs.Iterator.{YieldsFirstBy, item_count};
 ghost use Rattle.file.specs.Files.{file_records};
-ghost use Rattle.layout.specs.Pages.{records};
 ghost use Rattle.file.specs.Listings.{listed, left};
 
-use super::files::page_at;
+use super::files::{ShowFile, page_at};
 use super::listing::Listing;
-use layout::{FirstPage, Record, Records, valid};
+use layout::{Record, Records};
 
-impl<'a> Listing<'a> {
-    // All records of a file.
-    pub fn new(bytes: &'a [u8], first: FirstPage) -> Listing<'a>
-        ensures { left result ≡ file_records bytes.now first.counter first.pages }
+impl<'a> ShowFile<'a> {
+    // All its records.
+    pub fn records(&self) -> Listing<'a>
+        ensures { left result ≡ file_records self.now.bytes.now self.now.first.counter self.now.first.pages }
     {
         Listing {
-            bytes,
-            first,
+            file: *self,
             page: 1,
-            records: Records::new(page_at(bytes, 1), first.counter),
+            records: Records::new(page_at(self.bytes, 1), self.first.counter),
         }
     }
+}
 
-    // The next record, with its page.
-    pub fn next(&mut self) -> Option<(usize, Record<'a>)>
-        ensures { MatchOption result ((left self.old ≡ []) × (left self.new ≡ [])) (λ x. left self.old ≡ listed x ∷ left self.new) }
-    {
+// Each record, with its page.
+impl<'a> Iterator for Listing<'a> {
+    type Item = (usize, Record<'a>);
+
+    ghost next_gives = { YieldsFirstBy listed left };
+
+    ghost remaining = { item_count left };
+
+    fn next(&mut self) -> Option<(usize, Record<'a>)> {
         loop {
             if let Some(record) = self.records.next() {
                 return Some((self.page, record));
             }
             let page = self.page + 1;
-            if page >= self.first.pages {
+            if page >= self.file.first.pages {
                 return None;
             }
             self.page = page;
-            self.records = Records::new(page_at(self.bytes, page), self.first.counter);
+            self.records = Records::new(page_at(self.file.bytes, page), self.file.first.counter);
         }
     }
-}
-
-// How many records a page has.
-fn count_on(page: &[u8], counter: u32) -> u16
-    ensures { result ≡ length (records counter page.now) }
-{
-    match valid(page, counter) {
-        Some(header) => header.count,
-        None => 0,
-    }
-}
-
-// How many records a file has.
-pub fn count_records(bytes: &[u8], first: FirstPage) -> usize
-    ensures { result ≡ length (file_records bytes.now first.counter first.pages) }
-{
-    let mut n: usize = 0;
-    for q in 1..first.pages {
-        n += count_on(page_at(bytes, q), first.counter) as usize;
-    }
-    n
 }

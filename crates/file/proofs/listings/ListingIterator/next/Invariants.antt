@@ -1,9 +1,9 @@
 use Rattle.std.proofs.Common.{◌≡◌, ◌-◌}
 use Rattle.file.specs.Listings.{left}
-use Rattle.file.proofs.listing.Listing.next.Given as goal
+use Rattle.file.proofs.listings.ListingIterator.next.Given as goal
 
 abbrev pub invariant-loop-record : goal.invariant-loop-record
 invariant-loop-record l = left l.self ≡ left l.initial.self
 
 abbrev pub decreases-loop-record : goal.decreases-loop-record
-decreases-loop-record l = l.self.first.pages - l.self.page
+decreases-loop-record l = l.self.file.first.pages - l.self.page
