@@ -23,12 +23,9 @@ fn first_page(pages: u32, counter: u32, count: usize) -> Option<FirstPage> {
     FirstPage::read(&page, count)
 }
 
-// The key whose record is found, or 0.
-fn found(page: &[u8; 1024], counter: u32, key: u32) -> u32 {
-    match find(page, counter, key) {
-        Some(record) => record.key,
-        None => 0,
-    }
+// The key of the record that is found.
+fn found(page: &[u8; 1024], counter: u32, key: u32) -> Option<u32> {
+    find(page, counter, key).map(|record| record.key)
 }
 
 #[test]
@@ -36,10 +33,10 @@ fn the_greater_number_that_counts_is_read(rt: HostRuntime) {
     let mut page = [0; 1024];
     put_header(&mut page, Side::A, 3, 1, 1000, 30);
     put_header(&mut page, Side::B, 4, 1, 900, 40);
-    assert_eq!(rt; found(&page, 3, 30), 30);
-    assert_eq!(rt; found(&page, 3, 40), 0);
-    assert_eq!(rt; found(&page, 4, 40), 40);
-    assert_eq!(rt; found(&page, 2, 30), 0);
+    assert_eq!(rt; found(&page, 3, 30), Some(30));
+    assert_eq!(rt; found(&page, 3, 40), None);
+    assert_eq!(rt; found(&page, 4, 40), Some(40));
+    assert_eq!(rt; found(&page, 2, 30), None);
     assert!(rt; valid(&page, 2).is_none());
     assert_eq!(rt; pending(&page, 3), 1);
     assert_eq!(rt; pending(&page, 4), 0);
@@ -57,9 +54,7 @@ fn the_first_page_is_read_or_refused(rt: HostRuntime) {
 
 #[test]
 fn a_page_is_sound_or_not(rt: HostRuntime) -> Result<(), Fail> {
-    let Some(first) = first_page(2, 3, 2) else {
-        return Err(Fail::new("no first page"));
-    };
+    let first = first_page(2, 3, 2).ok_or("no first page")?;
     let mut page = [0; 1024];
     assert!(rt; is_sound(&page, first, 1));
     put_header(&mut page, Side::A, 3, 1, 1020, 7);
@@ -79,22 +74,18 @@ fn a_page_is_sound_or_not(rt: HostRuntime) -> Result<(), Fail> {
 
 #[test]
 fn the_greatest_counter_has_no_next(rt: HostRuntime) -> Result<(), Fail> {
-    let Some(first) = first_page(2, 4_294_967_295, 2) else {
-        return Err(Fail::new("no first page"));
-    };
+    let first = first_page(2, 4_294_967_295, 2).ok_or("no first page")?;
     let mut page = [0; 1024];
     assert_eq!(rt; pending(&page, 4_294_967_295), 0);
     put_header(&mut page, Side::B, 4_294_967_295, 1, 1000, 8);
     assert!(rt; is_sound(&page, first, 1));
-    assert_eq!(rt; found(&page, 4_294_967_295, 8), 8);
+    assert_eq!(rt; found(&page, 4_294_967_295, 8), Some(8));
     Ok(())
 }
 
 #[test]
 fn a_key_has_its_page(rt: HostRuntime) -> Result<(), Fail> {
-    let Some(first) = first_page(4096, 0, 4096) else {
-        return Err(Fail::new("no first page"));
-    };
+    let first = first_page(4096, 0, 4096).ok_or("no first page")?;
     assert_eq!(rt; first.page_of(4095), 1);
     assert_eq!(rt; first.page_of(4094), 4095);
     assert_eq!(rt; first.page_of(0), 1);
