@@ -87,8 +87,14 @@ fn the_lowest_bad_bit_is_named(rt: HostRuntime) {
         bit_of(Cue::new(Some(1), Some(65), Some(101), Some(6_001))),
         Some(1)
     );
-    assert_eq!(rt; bit_of(Cue::new(None, None, Some(101), Some(6_001))), Some(2));
-    assert_eq!(rt; bit_of(Still::new(Some(0), None, Some(0), Some(6_001))), Some(0));
+    assert_eq!(rt;
+        bit_of(Cue::new(None, None, Some(101), Some(6_001))),
+        Some(2)
+    );
+    assert_eq!(rt;
+        bit_of(Still::new(Some(0), None, Some(0), Some(6_001))),
+        Some(0)
+    );
 }
 
 // The bad byte of bytes, unless they are read.
