@@ -1,5 +1,5 @@
 -- Going over all records of a file, and counting them.
-use Rattle.std.proofs.Common.{◌≡◌, ℕ, ◌+◌, ◌-◌, ◌<◌, List, [], ◌∷◌, ◌++◌, map, length, sum_by, Some, None, Option, MatchOption, sym, ap, ◌∙◌}
+use Rattle.std.proofs.Common.{◌≡◌, ℕ, suc, ◌+◌, ◌-◌, ◌<◌, List, [], ◌∷◌, ◌++◌, map, length, sum_by, Some, None, Option, MatchOption, sym, ap, ◌∙◌, arith}
 use Rattle.std.specs.List.{range_with_len, flat_map}
 use Rattle.std.proofs.lemmas.List.{length-map}
 use Rattle.std.proofs.lemmas.List.Concat.{length-flat_map}
@@ -7,8 +7,10 @@ use Rattle.layout.specs.declared.header.Header.{Header}
 use Rattle.layout.specs.Pages.{Entry, entry_of, slots, slots_by, records, valid}
 use Rattle.octets.specs.Files.{file_of}
 use Rattle.file.specs.Files.{page_records, file_records, later_pages}
-use Rattle.layout.proofs.Entries.{counting_next}
 use Rattle.layout.proofs.Fitting.{length_slots}
+
+counting_next : (k n : ℕ) → k < n → range_with_len k (n - k) ≡ k ∷ range_with_len (k + 1) (n - (k + 1))
+counting_next k n h = let e : n - k ≡ suc (n - (k + 1)) = omega arith in ap (range_with_len k) e
 
 module _ (bytes : List ℕ) (counter pages : ℕ) where
   -- the records of the pages from page q on
@@ -24,11 +26,6 @@ module _ (bytes : List ℕ) (counter pages : ℕ) where
       → map (λ e. (q, e)) es ++ flat_map (page_records bytes counter) (range_with_len (q + 1) (pages - (q + 1))) ≡ flat_map (page_records bytes counter) (range_with_len q (pages - q))
   unfolding from
   begun q es page h p e = ap (λ x. map (λ y. (q, y)) x ++ from (q + 1)) (e ∙ ap (records counter) p) ∙ sym (from_more q h)
-
--- a record is taken off what is left
-pub taken : (q : ℕ) (es fs : List Entry) (e : Entry) (after : List (ℕ × Entry)) → es ≡ e ∷ fs
-    → map (λ x. (q, x)) es ++ after ≡ (q, e) ∷ (map (λ x. (q, x)) fs ++ after)
-taken q es fs e after p = ap (λ xs. map (λ x. (q, x)) xs ++ after) p
 
 -- a page with nothing left
 pub ended : (q : ℕ) (es : List Entry) (after : List (ℕ × Entry)) → es ≡ [] → map (λ x. (q, x)) es ++ after ≡ after

@@ -21,6 +21,7 @@ impl<'a> Records<'a> {
     pub fn new(page: &'a [u8], counter: u32) -> Records<'a>
         ensures { rest result ≡ records counter page.now }
     {
+        // without a valid header there are no records, as with one that has none
         let header = valid(page, counter).unwrap_or(Header {
             side: Side::A,
             number: 0,
