@@ -40,6 +40,7 @@ pub fn number(bytes: &[u8], at: usize, width: Width) -> u32
     ensures value { result ≡ big (part bytes.now at (size width)) }
     ensures bound { result < 256 ^ size width }
 {
+    // no fold: a closure would have to be shown, call by call, to keep the number in range
     let mut n: u32 = 0;
     for b in part(bytes, at, width.size()) {
         n = n * 256 + *b as u32;
