@@ -14,7 +14,7 @@ impl FirstPage {
         let form = number(page, 0, Width::Four);
         let pages = number(page, 4, Width::Four) as usize;
         let counter = number(page, 8, Width::Four);
-        if form != 1 || pages < 2 || pages > 4096 || pages > count {
+        if form != 1 || !(2..=4096).contains(&pages) || pages > count {
             return None;
         }
         Some(FirstPage { pages, counter })

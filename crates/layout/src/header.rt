@@ -1,5 +1,5 @@
 // The two headers of a page and their slots.
-ghost use Rattle.std.specs.Prelude.{◌≡◌};
+ghost use Rattle.std.specs.Prelude.{◌≡◌, ◌+◌};
 ghost use Rattle.layout.specs.Pages.{start, header_of, rank, slot_of, pending_on, valid};
 
 use octets::{Width, number};
@@ -36,6 +36,15 @@ impl Side {
             Side::A => 0,
             Side::B => 104,
         }
+    }
+}
+
+impl Slot {
+    // The byte after its last.
+    pub(super) fn end(&self) -> u32
+        ensures { result ≡ self.now.offset + self.now.length }
+    {
+        u32::from(self.offset) + u32::from(self.length)
     }
 }
 

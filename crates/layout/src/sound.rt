@@ -27,9 +27,7 @@ fn numbers_sound(page: &[u8], counter: u32) -> bool
 fn before(page: &[u8], s: Slot, t: Slot) -> bool
     ensures { Decides result (Before page.now s t) }
 {
-    let s_end = s.offset as u32 + s.length as u32;
-    let t_end = t.offset as u32 + t.length as u32;
-    (s_end <= t.offset as u32 || t_end <= s.offset as u32)
+    (s.end() <= u32::from(t.offset) || t.end() <= u32::from(s.offset))
         && Record::read(page, s).key < Record::read(page, t).key
 }
 
@@ -48,9 +46,8 @@ impl<'a> Counted<'a> {
         ensures { Decides result (Own self.now.first.pages self.now.q self.now.page.now slot) }
     {
         slot.offset >= 208
-            && slot.length >= 4
-            && slot.length <= 204
-            && slot.offset <= 1024 - slot.length
+            && (4..=204).contains(&slot.length)
+            && slot.end() <= 1024
             && self.first.page_of(Record::read(self.page, slot).key) == self.q
     }
 
