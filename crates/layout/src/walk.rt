@@ -44,14 +44,12 @@ impl<'a> Iterator for Records<'a> {
     ghost remaining = { item_count rest };
 
     fn next(&mut self) -> Option<Record<'a>> {
-        let k = self.next;
-        if k >= self.header.count {
+        if self.next >= self.header.count {
             return None;
         }
-        let page = self.page;
-        let slot = self.header.slot(page, k);
-        self.next = k + 1;
-        Some(Record::read(page, slot))
+        let slot = self.header.slot(self.page, self.next);
+        self.next += 1;
+        Some(Record::read(self.page, slot))
     }
 }
 
