@@ -1,7 +1,8 @@
 -- A walk over fields and their values, one step on and at its end.
-use Rattle.std.specs.Prelude.{◌≡◌, ℕ, ◌+◌, ◌/◌, ◌%◌, ◌^◌, ◌<◌, ◌≤◌, Bool, true, false, cond, List, [], ◌∷◌, ◌++◌, length, take, drop, Some, None, Ok, Err, Option, Result, ◌==◌, slice_index, slice_index_or, slice_set, refl}
-use Rattle.std.proofs.Common.{sym, ap, ◌∙◌, append_assoc, append-nil, arith, length-append}
+use Rattle.std.specs.Prelude.{◌≡◌, ℕ, ◌+◌, ◌/◌, ◌%◌, ◌^◌, ◌<◌, ◌≤◌, Bool, true, false, cond, not, zip, List, [], ◌∷◌, ◌++◌, length, take, drop, Some, None, Ok, Err, Option, Result, ◌==◌, slice_index, slice_index_or, slice_set, refl}
+use Rattle.std.proofs.Common.{get_or, sym, ap, ◌∙◌, append_assoc, append-nil, arith, length-append}
 use Rattle.std.proofs.lemmas.List.{drop_more, drop_all, take_all, take_more_set, at_drop_more}
+use Rattle.std.specs.List.{position_from}
 use Rattle.std.proofs.lemmas.Bool.{cond-true, eq-eqb}
 use Rattle.octets.specs.Parts.{patched}
 use Rattle.octets.specs.Numbers.{size}
@@ -10,27 +11,29 @@ use Rattle.form.specs.declared.field.Field.{Field}
 use Rattle.form.specs.Fields.{fits, lowest_bad, field_bytes, fields_bytes, field_read, after, fields_read, decoded}
 use Rattle.octets.proofs.Puts.{patched_none, patched_more}
 
+-- what two lists have at place i
+abbrev pub At : {X Y : Type 0} → List X → List Y → ℕ → X → Y → Type 0
+At {X} {Y} xs ys i x y = (i < length xs) × (i < length ys) × ((d : X) → x ≡ get_or xs i d) × ((d : Y) → y ≡ get_or ys i d)
+
 -- a function of what is left of two lists, one step on
-pub at_drops_more : {X Y Z : Type 0} (F : List X → List Y → Z) (xs : List X) (ys : List Y) (i : ℕ) (d : X) (e : Y)
-    → length xs ≡ length ys → i < length ys → F (drop i xs) (drop i ys) ≡ F (slice_index_or xs i d ∷ drop (i + 1) xs) (slice_index_or ys i e ∷ drop (i + 1) ys)
-at_drops_more F xs ys i d e same h = λ j. F (drop_more xs i d (omega arith) j) (drop_more ys i e h j)
+pub at_drops_more : {X Y Z : Type 0} (F : List X → List Y → Z) (xs : List X) (ys : List Y) (i : ℕ) (x : X) (y : Y) → At xs ys i x y
+    → F (drop i xs) (drop i ys) ≡ F (x ∷ drop (i + 1) xs) (y ∷ drop (i + 1) ys)
+at_drops_more F xs ys i x y here =
+    (λ j. F (drop_more xs i x here.0 j) (drop_more ys i y here.1 j)) ∙ sym (λ j. F (here.2 x j ∷ drop (i + 1) xs) (here.3 y j ∷ drop (i + 1) ys))
 
 -- and at their end
 pub at_drops_all : {X Y Z : Type 0} (F : List X → List Y → Z) (xs : List X) (ys : List Y) (i : ℕ)
-    → length xs ≡ length ys → length ys ≤ i → F (drop i xs) (drop i ys) ≡ F [] []
-at_drops_all F xs ys i same h = λ j. F (drop_all i xs (omega arith) j) (drop_all i ys h j)
+    → length xs ≤ i → length ys ≤ i → F (drop i xs) (drop i ys) ≡ F [] []
+at_drops_all F xs ys i h k = λ j. F (drop_all i xs h j) (drop_all i ys k j)
 
-lowest : (i : ℕ) (f : Field) (fs : List Field) (v : Option ℕ) (vs : List (Option ℕ)) (t : Bool) → t ≡ fits f v
-    → lowest_bad i (f ∷ fs) (v ∷ vs) ≡ cond t (lowest_bad (i + 1) fs vs) (Some i)
-lowest i f fs v vs t e = ap (λ b. cond b (lowest_bad (i + 1) fs vs) (Some i)) (sym e)
-
-pub lowest_passed : (fs : List Field) (vs : List (Option ℕ)) (i : ℕ) (d : Field) (e : Option ℕ) → length fs ≡ length vs → i < length vs
-    → true ≡ fits (slice_index_or fs i d) (slice_index_or vs i e) → lowest_bad i (drop i fs) (drop i vs) ≡ lowest_bad (i + 1) (drop (i + 1) fs) (drop (i + 1) vs)
-lowest_passed fs vs i d e same h fit = at_drops_more (lowest_bad i) fs vs i d e same h ∙ lowest i (slice_index_or fs i d) (drop (i + 1) fs) (slice_index_or vs i e) (drop (i + 1) vs) true fit
-
-pub lowest_found : (fs : List Field) (vs : List (Option ℕ)) (i : ℕ) (d : Field) (e : Option ℕ) → length fs ≡ length vs → i < length vs
-    → false ≡ fits (slice_index_or fs i d) (slice_index_or vs i e) → lowest_bad i (drop i fs) (drop i vs) ≡ Some i
-lowest_found fs vs i d e same h fit = at_drops_more (lowest_bad i) fs vs i d e same h ∙ lowest i (slice_index_or fs i d) (drop (i + 1) fs) (slice_index_or vs i e) (drop (i + 1) vs) false fit
+-- the first number out of its range, found in the list of fields with their numbers
+pub lowest_from : (i : ℕ) (fs : List Field) (vs : List (Option ℕ)) → lowest_bad i fs vs ≡ position_from (λ p. not (fits p.0 p.1)) i (zip fs vs)
+lowest_from i [] vs = refl
+lowest_from i (f ∷ fs) [] = refl
+lowest_from i (f ∷ fs) (v ∷ vs) = elim (fits f v) as (λ t. cond t (lowest_bad (i + 1) fs vs) (Some i) ≡ cond (not t) (Some i) (position_from (λ p. not (fits p.0 p.1)) (i + 1) (zip fs vs))) [
+  | true ↦ lowest_from (i + 1) fs vs
+  | false ↦ refl
+]
 
 -- a field takes four bytes at most
 pub field_le : (f : Field) (v : Option ℕ) → length (field_bytes f v) ≤ 4
@@ -38,22 +41,22 @@ field_le f None = omega arith
 field_le f (Some n) = omega (arith, length_spell (size f.width) n, size_le f.width)
 
 -- a field put: what is left to put gives what was left before
-pub put_more : (fs : List Field) (vs : List (Option ℕ)) (i at end : ℕ) (xs ys : List ℕ) (d : Field) (e : Option ℕ) → length fs ≡ length vs → i < length vs → at + 4 ≤ length xs
-    → end ≡ at + length (field_bytes (slice_index_or fs i d) (slice_index_or vs i e)) → ys ≡ patched xs at (field_bytes (slice_index_or fs i d) (slice_index_or vs i e))
+pub put_more : (fs : List Field) (vs : List (Option ℕ)) (i at end : ℕ) (xs ys : List ℕ) (f : Field) (v : Option ℕ) → At fs vs i f v → at + 4 ≤ length xs
+    → end ≡ at + length (field_bytes f v) → ys ≡ patched xs at (field_bytes f v)
     → (end ≤ at + 4) × (end + length (fields_bytes (drop (i + 1) fs) (drop (i + 1) vs)) ≡ at + length (fields_bytes (drop i fs) (drop i vs)))
     × (patched ys end (fields_bytes (drop (i + 1) fs) (drop (i + 1) vs)) ≡ patched xs at (fields_bytes (drop i fs) (drop i vs)))
-put_more fs vs i at end xs ys d e same h room p q =
-    let a : List ℕ = field_bytes (slice_index_or fs i d) (slice_index_or vs i e) in
+put_more fs vs i at end xs ys f v here room p q =
+    let a : List ℕ = field_bytes f v in
     let b : List ℕ = fields_bytes (drop (i + 1) fs) (drop (i + 1) vs) in
-    let left : fields_bytes (drop i fs) (drop i vs) ≡ a ++ b = at_drops_more fields_bytes fs vs i d e same h in
-    let few : length a ≤ 4 = field_le (slice_index_or fs i d) (slice_index_or vs i e) in
+    let left : fields_bytes (drop i fs) (drop i vs) ≡ a ++ b = at_drops_more fields_bytes fs vs i f v here in
+    let few : length a ≤ 4 = field_le f v in
     (omega arith, omega (arith, ap length left, length-append a b), (λ j. patched (q j) (p j) b) ∙ patched_more xs a b at (omega arith) ∙ ap (patched xs at) (sym left))
 
 -- every field put
-pub put_all : (fs : List Field) (vs : List (Option ℕ)) (i at n : ℕ) (xs zs : List ℕ) → length fs ≡ length vs → length vs ≤ i
+pub put_all : (fs : List Field) (vs : List (Option ℕ)) (i at n : ℕ) (xs zs : List ℕ) → length fs ≤ i → length vs ≤ i
     → at + length (fields_bytes (drop i fs) (drop i vs)) ≡ n → patched xs at (fields_bytes (drop i fs) (drop i vs)) ≡ zs → (at ≡ n) × (xs ≡ zs)
-put_all fs vs i at n xs zs same h p q =
-    let none : fields_bytes (drop i fs) (drop i vs) ≡ [] = at_drops_all fields_bytes fs vs i same h in
+put_all fs vs i at n xs zs h k p q =
+    let none : fields_bytes (drop i fs) (drop i vs) ≡ [] = at_drops_all fields_bytes fs vs i h k in
     (omega (arith, ap length none), patched_none xs at ∙ ap (patched xs at) (sym none) ∙ q)
 
 -- the fields from byte `at` on, behind those read before them

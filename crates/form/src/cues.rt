@@ -11,7 +11,7 @@ use super::cue::Cue;
 use super::field::Field;
 use super::form::{BadByte, BadField, RecordForm};
 use super::show::show_field;
-use super::walk::{lowest_bad, read_fields, write_fields};
+use super::walk::{check_ranges, read_fields, write_fields};
 use octets::Width;
 use std::fmt;
 
@@ -52,15 +52,13 @@ impl Cue {
     ) -> Result<Cue, BadField>
         ensures { MakesCue (start ∷ projector ∷ level ∷ fade ∷ []) result }
     {
-        match lowest_bad(&FIELDS, &[start, projector, level, fade]) {
-            Some(bit) => Err(BadField { bit }),
-            None => Ok(Cue {
-                start,
-                projector,
-                level,
-                fade,
-            }),
-        }
+        check_ranges(&FIELDS, &[start, projector, level, fade])?;
+        Ok(Cue {
+            start,
+            projector,
+            level,
+            fade,
+        })
     }
 }
 
@@ -85,9 +83,7 @@ impl RecordForm for Cue {
     }
 
     fn read(value: &[u8]) -> Result<Cue, BadByte> {
-        let mut values = [None; 4];
-        read_fields(TOP, &FIELDS, value, &mut values)?;
-        let [start, projector, level, fade] = values;
+        let [start, projector, level, fade] = read_fields(TOP, &FIELDS, value)?;
         Ok(Cue {
             start,
             projector,

@@ -11,7 +11,7 @@ use super::field::Field;
 use super::form::{BadByte, BadField, RecordForm};
 use super::show::show_field;
 use super::still::Still;
-use super::walk::{lowest_bad, read_fields, write_fields};
+use super::walk::{check_ranges, read_fields, write_fields};
 use octets::Width;
 use std::fmt;
 
@@ -52,15 +52,13 @@ impl Still {
     ) -> Result<Still, BadField>
         ensures { MakesStill (slide ∷ projector ∷ width ∷ hold ∷ []) result }
     {
-        match lowest_bad(&FIELDS, &[slide, projector, width, hold]) {
-            Some(bit) => Err(BadField { bit }),
-            None => Ok(Still {
-                slide,
-                projector,
-                width,
-                hold,
-            }),
-        }
+        check_ranges(&FIELDS, &[slide, projector, width, hold])?;
+        Ok(Still {
+            slide,
+            projector,
+            width,
+            hold,
+        })
     }
 }
 
@@ -85,9 +83,7 @@ impl RecordForm for Still {
     }
 
     fn read(value: &[u8]) -> Result<Still, BadByte> {
-        let mut values = [None; 4];
-        read_fields(TOP, &FIELDS, value, &mut values)?;
-        let [slide, projector, width, hold] = values;
+        let [slide, projector, width, hold] = read_fields(TOP, &FIELDS, value)?;
         Ok(Still {
             slide,
             projector,

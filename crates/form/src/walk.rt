@@ -1,10 +1,11 @@
 // The walk over a bit map and its fields, which forms of optional fields share.
-ghost use Rattle.std.specs.Prelude.{◌≡◌, ◌+◌, ◌*◌, ◌^◌, ◌<◌, ◌≤◌, true, length, Ok, Err, MatchResult};
+ghost use Rattle.std.specs.Prelude.{◌≡◌, ◌+◌, ◌*◌, ◌^◌, ◌<◌, ◌≤◌, true, length, not, zip, Some, None, Ok, Err, MatchResult};
+ghost use Rattle.std.specs.List.{position_from};
 ghost use Rattle.octets.specs.Parts.{patched};
 ghost use Rattle.form.specs.Fields.{fits, lowest_bad, bit_map, field_bytes, encoded, field_read, decoded};
 
 use super::field::Field;
-use super::form::BadByte;
+use super::form::{BadByte, BadField};
 use octets::{number, write_number};
 
 // Whether a number is in the range of its field; an absent one is.
@@ -18,26 +19,36 @@ pub(super) fn in_range(field: Field, value: Option<u32>) -> bool
 }
 
 // The bit of the first number out of its range.
-pub(super) fn lowest_bad(fields: &[Field], values: &[Option<u32>]) -> Option<usize>
-    requires { length fields.now ≡ length values.now }
-    ensures { result ≡ lowest_bad 0 fields.now values.now }
+fn lowest_bad<const N: usize>(fields: &[Field; N], values: &[Option<u32>; N]) -> Option<usize>
+    ensures { result ≡ position_from (λ p. not (fits p.0 p.1)) 0 (zip fields.now values.now) }
 {
-    for (bit, value) in values.iter().enumerate() {
-        if !in_range(fields[bit], *value) {
-            return Some(bit);
-        }
+    fields
+        .iter()
+        .zip(values)
+        .position(|(field, value)| !in_range(*field, *value))
+}
+
+// Refuses numbers of which one is out of its range, by the lowest bit of such a number.
+pub(super) fn check_ranges<const N: usize>(
+    fields: &[Field; N],
+    values: &[Option<u32>; N],
+) -> Result<(), BadField>
+    ensures { MatchResult result (λ _. lowest_bad 0 fields.now values.now ≡ None) (λ e. lowest_bad 0 fields.now values.now ≡ Some e.bit) }
+{
+    match lowest_bad(fields, values) {
+        Some(bit) => Err(BadField { bit }),
+        None => Ok(()),
     }
-    None
 }
 
 // The bit map: a bit for each number, set where it is there, below `top`, which names the form.
-fn bit_map(top: u8, values: &[Option<u32>]) -> u8
-    requires { (top + 1) * 2 ^ length values.now ≤ 256 }
+fn bit_map<const N: usize>(top: u8, values: &[Option<u32>; N]) -> u8
+    requires { (top + 1) * 2 ^ N ≤ 256 }
     ensures { result ≡ bit_map top values.now }
 {
     let mut map = top;
-    for bit in (0..values.len()).rev() {
-        map = 2 * map + u8::from(values[bit].is_some());
+    for value in values.iter().rev() {
+        map = 2 * map + u8::from(value.is_some());
     }
     map
 }
@@ -58,20 +69,20 @@ fn write_field(out: &mut [u8; 200], at: usize, field: Field, value: Option<u32>)
 }
 
 // Puts a value's bytes at the start of `out` and says how many they are. `top` names the form: the map's bits above those of the fields.
-pub(super) fn write_fields(
+pub(super) fn write_fields<const N: usize>(
     top: u8,
-    fields: &[Field],
-    values: &[Option<u32>],
+    fields: &[Field; N],
+    values: &[Option<u32>; N],
     out: &mut [u8; 200],
 ) -> usize
-    requires { (length fields.now ≡ length values.now) × ((top + 1) * 2 ^ length values.now ≤ 256) }
+    requires { (top + 1) * 2 ^ N ≤ 256 }
     ensures count { result ≡ length (encoded top fields.now values.now) }
     ensures after { out.new ≡ patched out.old 0 (encoded top fields.now values.now) }
 {
     out[0] = bit_map(top, values);
     let mut at = 1;
-    for (bit, value) in values.iter().enumerate() {
-        at = write_field(out, at, fields[bit], *value);
+    for (field, value) in fields.iter().zip(values) {
+        at = write_field(out, at, *field, *value);
     }
     at
 }
@@ -100,19 +111,19 @@ fn read_field(
     Ok((n, at + size))
 }
 
-// Reads the fields of a value into `values`, or gives the value's first bad byte.
-pub(super) fn read_fields(
+// The fields of a value, or its first bad byte.
+pub(super) fn read_fields<const N: usize>(
     top: u8,
-    fields: &[Field],
+    fields: &[Field; N],
     value: &[u8],
-    values: &mut [Option<u32>],
-) -> Result<(), BadByte>
-    requires { (length fields.now ≡ length values.old) × (length fields.now < 8) }
-    ensures { MatchResult result (λ _. decoded top fields.now value.now ≡ Ok values.new) (λ e. decoded top fields.now value.now ≡ Err e.at) }
+) -> Result<[Option<u32>; N], BadByte>
+    requires { N < 8 }
+    ensures { MatchResult result (λ vs. decoded top fields.now value.now ≡ Ok vs) (λ e. decoded top fields.now value.now ≡ Err e.at) }
 {
-    if value.is_empty() || value[0] >> fields.len() != top {
+    if value.is_empty() || value[0] >> N != top {
         return Err(BadByte { at: 0 });
     }
+    let mut values = [None; N];
     let mut left = value[0];
     let mut at = 1;
     for (bit, field) in fields.iter().enumerate() {
@@ -124,5 +135,5 @@ pub(super) fn read_fields(
     if at != value.len() {
         return Err(BadByte { at });
     }
-    Ok(())
+    Ok(values)
 }

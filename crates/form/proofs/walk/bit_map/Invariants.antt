@@ -1,6 +1,10 @@
-use Rattle.std.proofs.Common.{◌≡◌, drop}
+use Rattle.std.proofs.Common.{◌≡◌, ◌-◌, length, drop}
 use Rattle.form.specs.Fields.{bit_map}
 use Rattle.form.proofs.walk.bit_map.Given as goal
 
-abbrev pub invariant-loop-bit : goal.invariant-loop-bit
-invariant-loop-bit l = l.map ≡ bit_map l.top (drop l.bit l.values)
+-- the map of the numbers gone through, from the last on
+abbrev pub invariant-loop-value : goal.invariant-loop-value
+invariant-loop-value g l =
+    (goal.iterator-loop-value g).can_next l.value-iterator
+    × (goal.iterator-loop-value g).is_finite l.value-iterator
+    × (l.map ≡ bit_map l.top (drop (length l.values - length l.yielded) l.values))

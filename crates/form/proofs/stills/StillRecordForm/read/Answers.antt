@@ -5,9 +5,9 @@ use Rattle.form.specs.Listings.{still_read}
 use Rattle.form.proofs.stills.StillRecordForm.read.Goals as goal
 
 pub returns : goal.returns
-returns c = let e = c.in_ok-read_fields.ensures in search (rules, still_read)
+returns c = let e = c.in_ok-slide.ensures in search (rules, still_read)
 
 pub invariant_of-result : goal.invariant_of-result
 invariant_of-result c = record {
-  in_range = read_fit 8 still_fields refl c.args.value.now c.read_fields.new.values c.in_ok-read_fields.ensures;
+  in_range = read_fit 8 still_fields refl c.args.value.now _ c.in_ok-slide.ensures;
 }
