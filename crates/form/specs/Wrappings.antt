@@ -1,12 +1,14 @@
 -- What an accepted reading of a family says of the form that read.
-use Rattle.std.specs.Prelude.{◌≡◌, ℕ, ◌/◌, ◌%◌, Bool, true, false, cond, List, Ok, Err, Result, ◌==◌, refl}
-use Rattle.std.proofs.Common.{subst, arith}
+use Rattle.std.specs.Prelude.{◌≡◌, ℕ, zero, suc, ◌/◌, ◌%◌, Bool, true, false, cond, List, Ok, Err, Result, ◌==◌, refl}
+use Rattle.std.proofs.Common.{ap, sym, subst, arith}
 use Rattle.std.proofs.lemmas.Bool.{eqb-true, eqb-false}
 use Rattle.octets.specs.Parts.{Bytes}
 use Rattle.form.specs.declared.form.BadByte.{BadByte}
-use Rattle.form.specs.declared.pair.Either.{Either}
-use Rattle.form.specs.declared.pair.Either.TheVariants.{Left, Right}
-use Rattle.form.specs.Pairs.{either_kind, either_bytes, either_reads}
+use Rattle.either.specs.declared.Either.{Either}
+use Rattle.either.specs.declared.Either.TheVariants.{Left, Right}
+use Rattle.form.specs.Pairs.{either_kind, either_bytes, either_reads, either_number, either_numbered}
+use Rattle.form.specs.declared.item.ItemKind.TheVariants.{Cue as ACue, Still as AStill}
+use Rattle.form.specs.Items.{kind_number, kind_numbered}
 use Rattle.form.specs.Wraps.{wrapped}
 use Rattle.form.specs.Inverses.{ok_same, not_ok}
 
@@ -16,23 +18,38 @@ wrapped_so f (Ok x) w P h e = subst P (ok_same (f x) w e) (h x refl)
 wrapped_so f (Err k) w P h e = not_ok k w e
 
 -- the law `back` of a family
-abbrev pub Back : {A : Type 0} → (A → ℕ) → (A → List ℕ) → (ℕ → List ℕ → Result A BadByte) → Type 0
-Back {A} kind bytes reads = (k : ℕ) (b : List ℕ) (v : A) → Bytes b → reads k b ≡ Ok v → (kind v ≡ k) × (bytes v ≡ b)
+abbrev pub Back : {A K : Type 0} → (A → K) → (A → List ℕ) → (K → List ℕ → Result A BadByte) → Type 0
+Back {A} {K} kind bytes reads = (k : K) (b : List ℕ) (v : A) → Bytes b → reads k b ≡ Ok v → (kind v ≡ k) × (bytes v ≡ b)
 
-module _ {A B : Type 0} (kA : A → ℕ) (bA : A → List ℕ) (rA : ℕ → List ℕ → Result A BadByte) (kB : B → ℕ) (bB : B → List ℕ) (rB : ℕ → List ℕ → Result B BadByte)
-    (back_a : Back kA bA rA) (back_b : Back kB bB rB) where
-  side_back : (k : ℕ) (b : List ℕ) (v : Either A B) → Bytes b → (t : Bool) → (k % 2 == 0) ≡ t
-      → cond t (wrapped Left (rA (k / 2) b)) (wrapped Right (rB (k / 2) b)) ≡ Ok v → (either_kind kA kB v ≡ k) × (either_bytes bA bB v ≡ b)
-  side_back k b v bytes true s = wrapped_so Left (rA (k / 2) b) v (λ w. (either_kind kA kB w ≡ k) × (either_bytes bA bB w ≡ b)) λ x e.
-      let p = back_a (k / 2) b x bytes e in
-      let half = p.0 in
-      let even = eqb-true (k % 2) 0 s in
-      (omega arith, p.1)
-  side_back k b v bytes false s = wrapped_so Right (rB (k / 2) b) v (λ w. (either_kind kA kB w ≡ k) × (either_bytes bA bB w ≡ b)) λ y e.
-      let p = back_b (k / 2) b y bytes e in
-      let half = p.0 in
-      let odd = eqb-false (k % 2) 0 s in
-      (omega arith, p.1)
+pub either_back : {A B K L : Type 0} (kA : A → K) (bA : A → List ℕ) (rA : K → List ℕ → Result A BadByte) (kB : B → L) (bB : B → List ℕ) (rB : L → List ℕ → Result B BadByte)
+    → Back kA bA rA → Back kB bB rB → Back (either_kind kA kB) (either_bytes bA bB) (either_reads rA rB)
+either_back kA bA rA kB bB rB back_a back_b (Left k) b v bytes = wrapped_so Left (rA k b) v (λ w. (either_kind kA kB w ≡ Left k) × (either_bytes bA bB w ≡ b)) λ x e.
+    let p = back_a k b x bytes e in
+    (ap Left p.0, p.1)
+either_back kA bA rA kB bB rB back_a back_b (Right k) b v bytes = wrapped_so Right (rB k b) v (λ w. (either_kind kA kB w ≡ Right k) × (either_bytes bA bB w ≡ b)) λ y e.
+    let p = back_b k b y bytes e in
+    (ap Right p.0, p.1)
 
-  pub either_back : Back (either_kind kA kB) (either_bytes bA bB) (either_reads rA rB)
-  either_back k b v bytes = side_back k b v bytes (k % 2 == 0) refl
+-- the law `back` of numbered kinds
+abbrev pub NumberBack : {K : Type 0} → (K → ℕ) → (ℕ → Result K BadByte) → Type 0
+NumberBack {K} number numbered = (n : ℕ) (k : K) → numbered n ≡ Ok k → number k ≡ n
+
+module _ {K L : Type 0} (nK : K → ℕ) (fK : ℕ → Result K BadByte) (nL : L → ℕ) (fL : ℕ → Result L BadByte) (back_k : NumberBack nK fK) (back_l : NumberBack nL fL) where
+  side_back : (n : ℕ) (k : Either K L) (t : Bool) → (n % 2 == 0) ≡ t → cond t (wrapped Left (fK (n / 2))) (wrapped Right (fL (n / 2))) ≡ Ok k → either_number nK nL k ≡ n
+  side_back n k true s = wrapped_so Left (fK (n / 2)) k (λ w. either_number nK nL w ≡ n) λ x e.
+      let half = back_k (n / 2) x e in
+      let even = eqb-true (n % 2) 0 s in
+      omega arith
+  side_back n k false s = wrapped_so Right (fL (n / 2)) k (λ w. either_number nK nL w ≡ n) λ y e.
+      let half = back_l (n / 2) y e in
+      let odd = eqb-false (n % 2) 0 s in
+      omega arith
+
+  pub either_number_back : NumberBack (either_number nK nL) (either_numbered fK fL)
+  either_number_back n k = side_back n k (n % 2 == 0) refl
+
+-- an item's kind has the number that it was found by
+pub kind_number_back : NumberBack kind_number kind_numbered
+kind_number_back zero k e = ap kind_number (sym (ok_same ACue k e))
+kind_number_back (suc zero) k e = ap kind_number (sym (ok_same AStill k e))
+kind_number_back (suc (suc n)) k e = not_ok (record { at = 0 }) k e

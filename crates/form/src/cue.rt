@@ -4,7 +4,7 @@ ghost use Rattle.form.specs.Fields.{all_fit};
 ghost use Rattle.form.specs.Ranges.{cue_fields};
 
 // What a projector does at a moment of the show. Every field may be absent.
-#[derive(Clone, Copy)]
+#[derive(Clone, Copy, PartialEq, Eq, Debug)]
 pub struct Cue {
     // tenths of a second from the show's beginning, at most 863,999
     pub start: Option<u32>,

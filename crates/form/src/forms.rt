@@ -1,6 +1,7 @@
 // Several forms at once, told apart by a kind.
 ghost use Rattle.std.specs.Prelude.{◌≡◌, ℕ, ◌≤◌, List, length, Ok, Result};
 ghost use Rattle.octets.specs.Parts.{Bytes, patched};
+ghost use Rattle.form.specs.Wraps.{reads_numbered};
 ghost use Rattle.form.specs.declared.form.BadByte.{BadByte};
 
 use super::form::BadByte;
@@ -8,14 +9,17 @@ use super::form::BadByte;
 // The values of several forms, so that one list can mix them. Each value has a kind, which names its form; what holds of a
 // form holds of each kind.
 pub trait Forms: Sized {
+    // The names of the forms.
+    type Kind: Copy;
+
     // The form of a value.
-    ghost kind: { Self → ℕ };
+    ghost kind: { Self → Self.Kind };
 
     // The bytes of a value.
     ghost bytes: { Self → List ℕ };
 
     // The value that bytes stand for under the form of a kind, or their first bad byte.
-    ghost reads: { ℕ → List ℕ → Result Self BadByte };
+    ghost reads: { Self.Kind → List ℕ → Result Self BadByte };
 
     // Puts a value's bytes at the start of `out` and says how many they are; the rest of `out` stays.
     fn write(&self, out: &mut [u8; 200]) -> usize
@@ -23,12 +27,38 @@ pub trait Forms: Sized {
         ensures after { out.new ≡ patched out.old 0 (bytes self.now) };
 
     // Reads bytes as a value of a kind.
-    fn read(of: u8, value: &[u8]) -> Result<Self, BadByte>
+    fn read(of: Self::Kind, value: &[u8]) -> Result<Self, BadByte>
         ensures { result ≡ reads of value.now };
 
     ghost short: { (v : Self) → length (bytes v) ≤ 200 };
 
     ghost there: { (v : Self) → reads (kind v) (bytes v) ≡ Ok v };
 
-    ghost back: { (k : ℕ) (b : List ℕ) (v : Self) → Bytes b → reads k b ≡ Ok v → (kind v ≡ k) × (bytes v ≡ b) };
+    ghost back: { (k : Self.Kind) (b : List ℕ) (v : Self) → Bytes b → reads k b ≡ Ok v → (kind v ≡ k) × (bytes v ≡ b) };
+}
+
+// Kinds that go by numbers, for callers who keep a kind as a byte.
+pub trait Numbered: Sized {
+    // The number of a kind.
+    ghost number: { Self → ℕ };
+
+    // The kind with a number; where no kind has it, byte 0 is bad.
+    ghost numbered: { ℕ → Result Self BadByte };
+
+    // The kind with this number.
+    fn numbered(of: u8) -> Result<Self, BadByte>
+        ensures { result ≡ numbered of };
+
+    ghost there: { (k : Self) → numbered (number k) ≡ Ok k };
+
+    ghost back: { (n : ℕ) (k : Self) → numbered n ≡ Ok k → number k ≡ n };
+}
+
+// Reads bytes as a value of the kind with this number.
+pub fn read_numbered<F: Forms>(of: u8, value: &[u8]) -> Result<F, BadByte>
+where
+    F::Kind: Numbered,
+    ensures { result ≡ reads_numbered F.Kind.numbered F.reads of value.now }
+{
+    F::read(F::Kind::numbered(of)?, value)
 }

@@ -14,8 +14,8 @@ mod stills;
 mod walk;
 
 pub use cue::Cue;
+pub use either::Either;
 pub use form::{BadByte, BadField, RecordForm};
-pub use forms::Forms;
-pub use item::Item;
-pub use pair::Either;
+pub use forms::{Forms, Numbered, read_numbered};
+pub use item::{Item, ItemKind};
 pub use still::Still;

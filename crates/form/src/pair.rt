@@ -1,20 +1,16 @@
 // Two families of forms as one, so that any number of forms can be joined.
-ghost use Rattle.form.specs.Pairs.{either_kind, either_bytes, either_reads};
-ghost use Rattle.form.specs.Wrappings.{either_back};
+ghost use Rattle.form.specs.Pairs.{either_kind, either_bytes, either_reads, either_number, either_numbered};
+ghost use Rattle.form.specs.Wrappings.{either_back, either_number_back};
 ghost use Rattle.std.proofs.Common.{rules};
 
 use super::form::BadByte;
-use super::forms::Forms;
+use super::forms::{Forms, Numbered};
+use either::Either;
 
-// A value of one of two families.
-#[derive(Clone, Copy)]
-pub enum Either<A, B> {
-    Left { value: A },
-    Right { value: B },
-}
-
-// The left family has the even kinds and the right one the odd, so no kind is in both whatever the families are.
+// A value of one of two families. Its kind is a kind of one of them, so no kind is in both whatever the families are.
 impl<A: Forms, B: Forms> Forms for Either<A, B> {
+    type Kind = Either<A::Kind, B::Kind>;
+
     ghost kind = { either_kind A.Forms.kind B.Forms.kind };
 
     ghost bytes = { either_bytes A.Forms.bytes B.Forms.bytes };
@@ -29,20 +25,34 @@ impl<A: Forms, B: Forms> Forms for Either<A, B> {
 
     fn write(&self, out: &mut [u8; 200]) -> usize {
         match self {
-            Either::Left { value } => value.write(out),
-            Either::Right { value } => value.write(out),
+            Either::Left(value) => value.write(out),
+            Either::Right(value) => value.write(out),
         }
     }
 
-    fn read(of: u8, value: &[u8]) -> Result<Either<A, B>, BadByte> {
+    fn read(of: Either<A::Kind, B::Kind>, value: &[u8]) -> Result<Either<A, B>, BadByte> {
+        match of {
+            Either::Left(of) => Ok(Either::Left(A::read(of, value)?)),
+            Either::Right(of) => Ok(Either::Right(B::read(of, value)?)),
+        }
+    }
+}
+
+// The left family has the even numbers and the right one the odd, so no number is in both whatever the families are.
+impl<K: Numbered, L: Numbered> Numbered for Either<K, L> {
+    ghost number = { either_number K.number L.number };
+
+    ghost numbered = { either_numbered K.numbered L.numbered };
+
+    ghost there = { Prim.search rules };
+
+    ghost back = { either_number_back K.number K.numbered L.number L.numbered K.back L.back };
+
+    fn numbered(of: u8) -> Result<Either<K, L>, BadByte> {
         if of % 2 == 0 {
-            Ok(Either::Left {
-                value: A::read(of / 2, value)?,
-            })
+            Ok(Either::Left(K::numbered(of / 2)?))
         } else {
-            Ok(Either::Right {
-                value: B::read(of / 2, value)?,
-            })
+            Ok(Either::Right(L::numbered(of / 2)?))
         }
     }
 }

@@ -4,7 +4,7 @@ ghost use Rattle.form.specs.Fields.{all_fit};
 ghost use Rattle.form.specs.Ranges.{still_fields};
 
 // A slide that stands on the dome. Every field may be absent.
-#[derive(Clone, Copy)]
+#[derive(Clone, Copy, PartialEq, Eq, Debug)]
 pub struct Still {
     // 1 to 9,999
     pub slide: Option<u32>,
