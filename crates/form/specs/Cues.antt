@@ -1,9 +1,9 @@
 -- Cues as bytes. The top two bits of a cue's bit map are 01, and the two below them 00.
-use Rattle.std.specs.Prelude.{◌≡◌, ℕ, List, [], ◌∷◌, Some, None, Ok, Err, Option, Result}
+use Rattle.std.specs.Prelude.{ℕ, List, [], ◌∷◌, Option, Result}
 use Rattle.form.specs.declared.cue.Cue.{Cue}
 use Rattle.form.specs.declared.form.BadByte.{BadByte}
 use Rattle.form.specs.declared.form.BadField.{BadField}
-use Rattle.form.specs.Fields.{lowest_bad, encoded, Made, four_of, decoded, read_as}
+use Rattle.form.specs.Fields.{Makes, encoded, Made, four_of, decoded, read_as}
 use Rattle.form.specs.Ranges.{cue_fields}
 
 -- a cue's fields, lowest bit first
@@ -28,5 +28,4 @@ cue_reads b = read_as cue_of (decoded 4 cue_fields b)
 
 -- making a cue of these fields: the cue that has them, or the lowest bit whose field is out of range
 abbrev pub MakesCue : List (Option ℕ) → Result Cue BadField → Type 0
-MakesCue vs (Ok c) = (lowest_bad 0 cue_fields vs ≡ None) × (cue_values c ≡ vs)
-MakesCue vs (Err e) = lowest_bad 0 cue_fields vs ≡ Some e.bit
+MakesCue = Makes cue_fields cue_values

@@ -5,6 +5,7 @@ use Rattle.octets.specs.Parts.{part}
 use Rattle.std.specs.Option.{ok_or}
 use Rattle.form.specs.declared.field.Field.{Field}
 use Rattle.form.specs.declared.form.BadByte.{BadByte}
+use Rattle.form.specs.declared.form.BadField.{BadField}
 
 -- a number is in the range of its field; an absent one always is
 abbrev pub fits : Field → Option ℕ → Bool
@@ -92,3 +93,8 @@ four_of fs make (a ∷ b ∷ c ∷ d ∷ x ∷ xs) = None
 abbrev pub read_as : {V : Type 0} → (List (Option ℕ) → Option V) → Result (List (Option ℕ)) ℕ → Result V BadByte
 read_as of (Ok vs) = ok_or (of vs) (record { at = 0 })
 read_as of (Err at) = Err (record { at = at })
+
+-- making a value of these numbers: the value that has them, or the lowest bit whose number is out of range
+abbrev pub Makes : {V : Type 0} → List Field → (V → List (Option ℕ)) → List (Option ℕ) → Result V BadField → Type 0
+Makes fs values vs (Ok v) = (lowest_bad 0 fs vs ≡ None) × (values v ≡ vs)
+Makes fs values vs (Err e) = lowest_bad 0 fs vs ≡ Some e.bit

@@ -1,13 +1,13 @@
 -- What a record form owes, from what its values are as lists of fields.
-use Rattle.std.specs.Prelude.{◌≡◌, ℕ, ◌≤◌, Bool, true, false, List, [], ◌∷◌, length, Some, None, Ok, Err, Option, Result, slice_index_or, refl}
+use Rattle.std.specs.Prelude.{◌≡◌, ℕ, ◌+◌, ◌≤◌, Bool, cond, true, false, List, [], ◌∷◌, length, Some, None, Ok, Err, Option, Result, slice_index_or, refl}
 use Rattle.std.proofs.Common.{sym, ap, ◌∙◌, arith}
 use Rattle.std.proofs.Math.Bool.{Bool-set}
 use Rattle.std.specs.Option.{ok_or}
-use Rattle.std.proofs.lemmas.Bool.{both_ways}
+use Rattle.std.proofs.lemmas.Bool.{both_ways, and_from}
 use Rattle.octets.specs.Parts.{Bytes}
 use Rattle.form.specs.declared.field.Field.{Field}
 use Rattle.form.specs.declared.form.BadByte.{BadByte}
-use Rattle.form.specs.Fields.{all_fit, encoded, Made, ranged, four_of, decoded, read_as}
+use Rattle.form.specs.Fields.{fits, all_fit, lowest_bad, encoded, Made, ranged, four_of, decoded, read_as}
 use Rattle.form.specs.Inverses.{not_ok}
 use Rattle.form.specs.RoundTrips.{wide, decoded_encoded, encoded_decoded, decoded_fit, fit_length, fields_le}
 
@@ -42,6 +42,19 @@ module _ {V : Type 0} (fs : List Field) (make : Made V fs) (values : V → List 
   from_four (a ∷ b ∷ c ∷ d ∷ []) v p = from_ranged a b c d (all_fit fs (a ∷ b ∷ c ∷ d ∷ [])) refl v p
   from_four (a ∷ b ∷ c ∷ d ∷ x ∷ xs) v p = not_some v p
 
+none_of : (t : Bool) (o : Option ℕ) (b : ℕ) → cond t o (Some b) ≡ None → (t ≡ true) × (o ≡ None)
+none_of true o b e = (refl, e)
+none_of false o b e = not_some b (sym e)
+
+-- as many numbers as fields of which none is bad are in range
+pub none_bad : (b : ℕ) (fs : List Field) (vs : List (Option ℕ)) → length fs ≡ length vs → lowest_bad b fs vs ≡ None → all_fit fs vs ≡ true
+none_bad b [] [] same e = refl
+none_bad b [] (v ∷ vs) same e = absurd (omega arith)
+none_bad b (f ∷ fs) [] same e = absurd (omega arith)
+none_bad b (f ∷ fs) (v ∷ vs) same e =
+    let p = none_of (fits f v) (lowest_bad (b + 1) fs vs) b e in
+    and_from (fits f v) (all_fit fs vs) p.0 (none_bad (b + 1) fs vs (omega arith) p.1)
+
 ok_or_ok : {V : Type 0} (o : Option V) (e : BadByte) (v : V) → ok_or o e ≡ Ok v → o ≡ Some v
 ok_or_ok None e v p = not_ok e v p
 ok_or_ok (Some w) e v p = cc
@@ -55,7 +68,7 @@ read_as_ok of (Err at) v e = not_ok (record { at = at }) v e
 abbrev pub four : List (Option ℕ) → List (Option ℕ)
 four vs = slice_index_or vs 0 None ∷ slice_index_or vs 1 None ∷ slice_index_or vs 2 None ∷ slice_index_or vs 3 None ∷ []
 
-four_is : (vs : List (Option ℕ)) → length vs ≡ 4 → four vs ≡ vs
+pub four_is : (vs : List (Option ℕ)) → length vs ≡ 4 → four vs ≡ vs
 four_is [] n = absurd (omega arith)
 four_is (a ∷ []) n = absurd (omega arith)
 four_is (a ∷ b ∷ []) n = absurd (omega arith)
@@ -81,8 +94,7 @@ module _ {V : Type 0} (fs : List Field) (values : V → List (Option ℕ)) (of :
       let p = read_as_ok of (decoded top fs b) v e in
       ap (encoded top fs) (listed.values_of p.0 v p.2) ∙ encoded_decoded top fs b p.0 bytes p.1
 
-  -- the value made of the four fields that were read is what the bytes stand for
-  pub read_is : length fs ≡ 4 → (b : List ℕ) (vs : List (Option ℕ)) (v : V) → decoded top fs b ≡ Ok vs → values v ≡ four vs → Ok v ≡ read_as of (decoded top fs b)
-  read_is n b vs v e p =
-      let whole : four vs ≡ vs = four_is vs (sym (fit_length fs vs (decoded_fit top fs b vs e)) ∙ n) in
-      sym (ap (read_as of) e ∙ ap (λ ws. ok_or (of ws) (record { at = 0 })) (sym (p ∙ whole)) ∙ ap (λ o. ok_or o (record { at = 0 })) (listed.of_values v))
+  -- the value made of the numbers that were read is what the bytes stand for
+  pub read_is : (b : List ℕ) (vs : List (Option ℕ)) (v : V) → decoded top fs b ≡ Ok vs → values v ≡ vs → Ok v ≡ read_as of (decoded top fs b)
+  read_is b vs v e p =
+      sym (ap (read_as of) e ∙ ap (λ ws. ok_or (of ws) (record { at = 0 })) (sym p) ∙ ap (λ o. ok_or o (record { at = 0 })) (listed.of_values v))

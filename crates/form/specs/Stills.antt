@@ -1,9 +1,9 @@
 -- Stills as bytes. The top two bits of a still's bit map are 10, and the two below them 00.
-use Rattle.std.specs.Prelude.{◌≡◌, ℕ, List, [], ◌∷◌, Some, None, Ok, Err, Option, Result}
+use Rattle.std.specs.Prelude.{ℕ, List, [], ◌∷◌, Option, Result}
 use Rattle.form.specs.declared.still.Still.{Still}
 use Rattle.form.specs.declared.form.BadByte.{BadByte}
 use Rattle.form.specs.declared.form.BadField.{BadField}
-use Rattle.form.specs.Fields.{lowest_bad, encoded, Made, four_of, decoded, read_as}
+use Rattle.form.specs.Fields.{Makes, encoded, Made, four_of, decoded, read_as}
 use Rattle.form.specs.Ranges.{still_fields}
 
 -- a still's fields, lowest bit first
@@ -28,5 +28,4 @@ still_reads b = read_as still_of (decoded 8 still_fields b)
 
 -- making a still of these fields: the still that has them, or the lowest bit whose field is out of range
 abbrev pub MakesStill : List (Option ℕ) → Result Still BadField → Type 0
-MakesStill vs (Ok s) = (lowest_bad 0 still_fields vs ≡ None) × (still_values s ≡ vs)
-MakesStill vs (Err e) = lowest_bad 0 still_fields vs ≡ Some e.bit
+MakesStill = Makes still_fields still_values

@@ -4,6 +4,7 @@
 mod cue;
 mod cues;
 mod field;
+mod fielded;
 mod form;
 mod forms;
 mod item;
@@ -15,6 +16,8 @@ mod walk;
 
 pub use cue::Cue;
 pub use either::Either;
+pub use field::Field;
+pub use fielded::{Fielded, from_values};
 pub use form::{BadByte, BadField, RecordForm};
 pub use forms::{Forms, Numbered, read_numbered};
 pub use item::{Item, ItemKind};

@@ -1,8 +1,8 @@
 // The walk over a bit map and its fields, which forms of optional fields share.
-ghost use Rattle.std.specs.Prelude.{◌≡◌, ◌+◌, ◌*◌, ◌^◌, ◌<◌, ◌≤◌, true, length, not, zip, Some, None, Ok, Err, MatchResult};
+ghost use Rattle.std.specs.Prelude.{◌≡◌, ◌+◌, ◌*◌, ◌^◌, ◌<◌, ◌≤◌, true, length, not, zip, Some, None, Ok, Err, MatchResult, IfOk};
 ghost use Rattle.std.specs.List.{position_from};
 ghost use Rattle.octets.specs.Parts.{patched};
-ghost use Rattle.form.specs.Fields.{fits, lowest_bad, bit_map, field_bytes, encoded, field_read, decoded};
+ghost use Rattle.form.specs.Fields.{fits, all_fit, lowest_bad, bit_map, field_bytes, encoded, field_read, decoded};
 
 use super::field::Field;
 use super::form::{BadByte, BadField};
@@ -33,7 +33,8 @@ pub(super) fn check_ranges<const N: usize>(
     fields: &[Field; N],
     values: &[Option<u32>; N],
 ) -> Result<(), BadField>
-    ensures { MatchResult result (λ _. lowest_bad 0 fields.now values.now ≡ None) (λ e. lowest_bad 0 fields.now values.now ≡ Some e.bit) }
+    ensures lowest { MatchResult result (λ _. lowest_bad 0 fields.now values.now ≡ None) (λ e. lowest_bad 0 fields.now values.now ≡ Some e.bit) }
+    ensures fit { IfOk result (λ _. all_fit fields.now values.now ≡ true) }
 {
     match lowest_bad(fields, values) {
         Some(bit) => Err(BadField { bit }),
