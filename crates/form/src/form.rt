@@ -46,6 +46,7 @@ pub trait RecordForm: Sized {
     ghost reads: { List ℕ → Result Self BadByte };
 
     // Puts a value's bytes at the start of `out` and says how many they are; the rest of `out` stays.
+    // The caller lends the memory, since no call takes any.
     fn write(&self, out: &mut [u8; 200]) -> usize
         ensures count { result ≡ length (bytes self.now) }
         ensures after { out.new ≡ patched out.old 0 (bytes self.now) };

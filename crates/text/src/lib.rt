@@ -2,7 +2,6 @@
 #![tactic(auto)]
 
 ghost use Rattle.std.specs.Prelude.{◌≡◌, ◌<◌, Some};
-ghost use Rattle.text.specs.Digits.{hex_digit};
 ghost use Rattle.text.specs.Texts.{hex_text, value_text};
 
 use form::{Cue, RecordForm, Still};
@@ -16,18 +15,6 @@ pub struct Hex<'a>(pub &'a [u8]);
 #[derive(Clone, Copy)]
 pub struct Value<'a>(pub &'a [u8]);
 
-// The digit of a number below 16.
-fn digit(n: u8) -> char
-    requires { n < 16 }
-    ensures { result ≡ hex_digit n }
-{
-    if n < 10 {
-        (b'0' + n) as char
-    } else {
-        (b'a' + (n - 10)) as char
-    }
-}
-
 impl fmt::Display for Hex<'_> {
     ghost output = { λ x. Some (hex_text x.0.now) };
 
@@ -36,9 +23,8 @@ impl fmt::Display for Hex<'_> {
         if bytes.is_empty() {
             return f.write_str("-");
         }
-        for b in bytes {
-            f.write_char(digit(*b / 16))?;
-            f.write_char(digit(*b % 16))?;
+        for &b in bytes {
+            write!(f, "{b:02x}")?;
         }
         Ok(())
     }
