@@ -51,12 +51,15 @@ pub trait Fielded: Sized {
         requires { all_fit FIELDS numbers ≡ true }
         ensures { values result ≡ numbers };
 
+    // The map is one byte.
     ghost room: { TOP < 16 };
 
     ghost four: { length FIELDS ≡ 4 };
 
+    // The bytes of a field have room for its greatest number.
     ghost widths: { wide FIELDS ≡ true };
 
+    // Values and lists of four numbers in range go over into each other.
     ghost listed: { Listed FIELDS values of };
 }
 
