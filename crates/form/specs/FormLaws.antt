@@ -3,6 +3,7 @@ use Rattle.std.specs.Prelude.{◌≡◌, ℕ, ◌+◌, ◌≤◌, Bool, cond, tr
 use Rattle.std.proofs.Common.{sym, ap, ◌∙◌, arith}
 use Rattle.std.proofs.Math.Bool.{Bool-set}
 use Rattle.std.specs.Option.{ok_or}
+use Rattle.std.proofs.lemmas.Option.{none-some, same_Some}
 use Rattle.std.proofs.lemmas.Bool.{both_ways, and_from}
 use Rattle.octets.specs.Parts.{Bytes}
 use Rattle.form.specs.declared.field.Field.{Field}
@@ -22,29 +23,23 @@ pub ranged_at : {V : Type 0} (fs : List Field) (make : Made V fs) (a b c d : Opt
 ranged_at fs make a b c d true e fit = ap (λ h. Some (make a b c d h)) (Bool-set _ _ e fit)
 ranged_at fs make a b c d false e fit = absurd (both_ways _ e fit)
 
-not_some : {V P : Type 0} (v : V) → ◌≡◌ {A = Option V} None (Some v) → P
-not_some v e = let z : ◌≡◌ {A = ℕ} 0 1 = cc in absurd (omega arith)
-
-some_same : {V : Type 0} (x y : V) → ◌≡◌ {A = Option V} (Some x) (Some y) → x ≡ y
-some_same x y e = cc
-
 module _ {V : Type 0} (fs : List Field) (make : Made V fs) (values : V → List (Option ℕ))
     (values-made : (a b c d : Option ℕ) (fit : all_fit fs (a ∷ b ∷ c ∷ d ∷ []) ≡ true) → values (make a b c d fit) ≡ a ∷ b ∷ c ∷ d ∷ []) where
   from_ranged : (a b c d : Option ℕ) (t : Bool) (e : all_fit fs (a ∷ b ∷ c ∷ d ∷ []) ≡ t) (v : V) → ranged fs make a b c d t e ≡ Some v → values v ≡ a ∷ b ∷ c ∷ d ∷ []
-  from_ranged a b c d true e v p = ap values (sym (some_same (make a b c d e) v p)) ∙ values-made a b c d e
-  from_ranged a b c d false e v p = not_some v p
+  from_ranged a b c d true e v p = ap values (sym (same_Some (make a b c d e) v p)) ∙ values-made a b c d e
+  from_ranged a b c d false e v p = absurd (none-some v p)
 
   pub from_four : (vs : List (Option ℕ)) (v : V) → four_of fs make vs ≡ Some v → values v ≡ vs
-  from_four [] v p = not_some v p
-  from_four (a ∷ []) v p = not_some v p
-  from_four (a ∷ b ∷ []) v p = not_some v p
-  from_four (a ∷ b ∷ c ∷ []) v p = not_some v p
+  from_four [] v p = absurd (none-some v p)
+  from_four (a ∷ []) v p = absurd (none-some v p)
+  from_four (a ∷ b ∷ []) v p = absurd (none-some v p)
+  from_four (a ∷ b ∷ c ∷ []) v p = absurd (none-some v p)
   from_four (a ∷ b ∷ c ∷ d ∷ []) v p = from_ranged a b c d (all_fit fs (a ∷ b ∷ c ∷ d ∷ [])) refl v p
-  from_four (a ∷ b ∷ c ∷ d ∷ x ∷ xs) v p = not_some v p
+  from_four (a ∷ b ∷ c ∷ d ∷ x ∷ xs) v p = absurd (none-some v p)
 
 none_of : (t : Bool) (o : Option ℕ) (b : ℕ) → cond t o (Some b) ≡ None → (t ≡ true) × (o ≡ None)
 none_of true o b e = (refl, e)
-none_of false o b e = not_some b (sym e)
+none_of false o b e = absurd (none-some b (sym e))
 
 -- as many numbers as fields of which none is bad are in range
 pub none_bad : (b : ℕ) (fs : List Field) (vs : List (Option ℕ)) → length fs ≡ length vs → lowest_bad b fs vs ≡ None → all_fit fs vs ≡ true
