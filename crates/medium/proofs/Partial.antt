@@ -1,12 +1,44 @@
 -- Runs of which only some words are put.
-use Rattle.std.proofs.Common.{◌≡◌, ℕ, ◌+◌, ◌-◌, ◌*◌, ◌/◌, ◌%◌, ◌^◌, ◌<◌, ◌≤◌, cond, ◌⊎◌, List, length, get_or, take, sym, ap, ◌∙◌, inl, inr, ⊎_elim, arith}
-use Rattle.std.proofs.lemmas.List.{get_or-take, length-take-le}
+use Rattle.std.proofs.Common.{◌≡◌, ℕ, ◌+◌, ◌-◌, ◌*◌, ◌/◌, ◌%◌, ◌^◌, ◌<◌, ◌≤◌, cond, ◌⊎◌, List, [], ◌++◌, length, get_or, take, drop, sym, refl, ap, ◌∙◌, inl, inr, ⊎_elim, length-append, length-drop, arith}
+use Rattle.std.proofs.lemmas.List.{drop-drop, get_or-take, length-take-le}
+use Rattle.std.proofs.Math.Seq.{drop-append_seam, take-append_seam}
 use Rattle.std.proofs.lemmas.Bool.{cases_Bool, cases_lt, cond-true, cond-false, eq-eqb, ne_eqb}
 use Rattle.octets.specs.Parts.{part, patched}
 use Rattle.octets.proofs.Agreeing.{get_d_part, part_same}
 use Rattle.octets.proofs.Patches.{length_part, length_patched, patched_inside, patched_beside}
 use Rattle.octets.proofs.Words.{part_inside}
 use Rattle.medium.specs.Trials.{Partly, stands}
+
+-- nothing of a run
+pub partly_nothing : (pattern start : ℕ) (bytes : List ℕ) → Partly pattern start [] bytes bytes
+partly_nothing pattern start bytes = record { long = refl; inside = λ k l. absurd (omega arith); beside = λ k side. refl }
+
+-- k words of a run are done, and the bytes to come are these
+pub record Ahead (y : List ℕ) (size k : ℕ) (next : List ℕ) : Type 0 where
+  pub four : size ≡ 4
+  pub within : 4 * k ≤ length y
+  pub rest : next ≡ drop (4 * k) y
+
+-- the next word w, and what is to come after it
+pub record More (y : List ℕ) (size k : ℕ) (w more : List ℕ) : Type 0 where
+  pub room : 4 * k + 4 ≤ length y
+  pub word : w ≡ part y (4 * k) 4
+  pub ahead : Ahead y size (k + 1) more
+
+pub ahead_more : (y : List ℕ) (size k : ℕ) (next w more : List ℕ) → Ahead y size k next → next ≡ w ++ more → length w ≡ size → More y size k w more
+ahead_more y size k next w more h is long =
+    let four : length w ≡ 4 = long ∙ h.four in
+    let here : w ++ more ≡ drop (4 * k) y = sym is ∙ h.rest in
+    let room : 4 * k + 4 ≤ length y = omega (arith, ap length here, length-drop (4 * k) y, length-append w more, four, h.within) in
+    record {
+      room = room;
+      word = sym (take-append_seam w more) ∙ (λ j. take (four j) (here j));
+      ahead = record {
+        four = h.four;
+        within = omega (arith, room);
+        rest = sym (drop-append_seam w more) ∙ (λ j. drop (four j) (here j)) ∙ drop-drop 4 (4 * k) y ∙ ap (λ i. drop i y) (omega arith);
+      };
+    }
 
 -- one word more of a run, which its bit has put or left
 module _ (pattern start k : ℕ) (y old mid : List ℕ) (some : 4 * k + 4 ≤ length y) (fits : start + length y ≤ length old)
@@ -47,11 +79,10 @@ module _ (pattern start k : ℕ) (y old mid : List ℕ) (some : 4 * k + 4 ≤ le
           let old-byte : get_or mid (start + i) 0 ≡ get_or old (start + i) 0 = h.beside (start + i) (inr (omega (arith, done))) in
           here i low (omega arith) ∙ (λ j. cond (stands pattern (bit j)) (new-byte j) (old-byte j))
 
-  pub partly_put : (new : List ℕ) → pattern / 2 ^ (k % 64) % 2 ≡ 1 → new ≡ patched mid (start + 4 * k) (part y (4 * k) (4 * k + 4 - 4 * k))
+  pub partly_put : (new : List ℕ) → pattern / 2 ^ (k % 64) % 2 ≡ 1 → new ≡ patched mid (start + 4 * k) (part y (4 * k) 4)
       → Partly pattern start (take (4 * (k + 1)) y) old new
   partly_put new stood e =
-      let size : 4 * k + 4 - 4 * k ≡ 4 = omega arith in
-      rw (e ∙ ap (λ n. patched mid (start + 4 * k) (part y (4 * k) n)) size)
+      rw e
       (partly_more (patched mid (start + 4 * k) w) (length_patched mid w (start + 4 * k) room) here beside)
     where
       w : List ℕ

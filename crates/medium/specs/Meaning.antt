@@ -25,6 +25,12 @@ pub record Shows (m : Meaning) : Type 0 where
 abbrev pub good : ℕ → ℕ → ℕ → ℕ → Bool
 good pages p s n = nat_lt p pages && (nat_lt 0 n && (s % 4 == 0 && (n % 4 == 0 && nat_le (s + n) 1024)))
 
+-- whether a run of n bytes may be read or written: a bad run is refused first, and then every run of a stopped medium
+abbrev pub Admits : Meaning → ℕ → ℕ → ℕ → Result (Unit {0}) MediumFault → Type 0
+Admits m p s n (Ok _) = (good m.pages p s n ≡ true) × (m.stopped ≡ false)
+Admits m p s n (Err BadRun) = good m.pages p s n ≡ false
+Admits m p s n (Err Stopped) = (good m.pages p s n ≡ true) × (m.stopped ≡ true)
+
 -- no word may be left otherwise than before
 pub record NoGain (m n : Meaning) : Type 0 where
   pub pages : n.pages ≡ m.pages

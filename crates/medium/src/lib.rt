@@ -1,6 +1,7 @@
 // Page media: what one is, two of them, and what a cut leaves.
 #![tactic(auto)]
 
+mod copy;
 mod cut;
 mod fault;
 mod laws;

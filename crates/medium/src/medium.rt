@@ -1,6 +1,6 @@
 // What a medium is.
 ghost use Rattle.std.specs.Prelude.{◌≡◌, length};
-ghost use Rattle.medium.specs.Meaning.{Meaning, Sized, Shows, Read, Wrote, Settled, good};
+ghost use Rattle.medium.specs.Meaning.{Meaning, Sized, Shows, Admits, Read, Wrote, Settled, good};
 
 use super::fault::MediumFault;
 
@@ -22,6 +22,19 @@ pub trait Medium {
     // Whether it has stopped.
     fn stopped(&self) -> bool
         ensures { result ≡ (meaning self.now).stopped };
+
+    // Refuses a run that is not good, and then every run once the medium has stopped.
+    fn admit(&self, page: usize, at: usize, len: usize) -> Result<(), MediumFault>
+        ensures { Admits (meaning self.now) page at len result }
+    {
+        if !good_run(self.pages(), page, at, len) {
+            return Err(MediumFault::BadRun);
+        }
+        if self.stopped() {
+            return Err(MediumFault::Stopped);
+        }
+        Ok(())
+    }
 
     // Copies the bytes of a page from byte `at` on into `out`.
     fn read(&self, page: usize, at: usize, out: &mut [u8]) -> Result<(), MediumFault>

@@ -5,8 +5,9 @@ ghost use Rattle.medium.specs.declared.fault.MediumFault.TheVariants.{BadRun};
 ghost use Rattle.medium.specs.Flat.{flat, flat_sized, flat_shows};
 ghost use Rattle.medium.specs.Meaning.{Settled, Wrote};
 
+use super::copy::copy_run;
 use super::fault::MediumFault;
-use super::medium::{Medium, good_run};
+use super::medium::Medium;
 use octets::patch;
 
 // The bytes as pages; what is left over is never touched. It never stops, and only what it shows can be left of it.
@@ -47,11 +48,8 @@ impl Medium for Memory<'_> {
     }
 
     fn read(&self, page: usize, at: usize, out: &mut [u8]) -> Result<(), MediumFault> {
-        if !good_run(self.bytes.len() / 1024, page, at, out.len()) {
-            return Err(MediumFault::BadRun);
-        }
-        let start = page * 1024 + at;
-        out.copy_from_slice(&self.bytes[start..start + out.len()]);
+        self.admit(page, at, out.len())?;
+        copy_run(self.bytes, page, at, out);
         Ok(())
     }
 
@@ -59,9 +57,7 @@ impl Medium for Memory<'_> {
         ensures rule { Wrote (flat false self.old.bytes.now) (flat false self.new.bytes.now) page at bytes.now result }
         ensures exactly { MatchResult result (λ _. self.new.bytes.now ≡ patched self.old.bytes.now (page * 1024 + at) bytes.now) (λ e. (e ≡ BadRun) × (self.new.bytes.now ≡ self.old.bytes.now)) }
     {
-        if !good_run(self.bytes.len() / 1024, page, at, bytes.len()) {
-            return Err(MediumFault::BadRun);
-        }
+        self.admit(page, at, bytes.len())?;
         patch(self.bytes, page * 1024 + at, bytes);
         Ok(())
     }

@@ -4,8 +4,9 @@ ghost use Rattle.medium.specs.Flat.{flat, flat_sized, flat_shows};
 ghost use Rattle.medium.specs.Meaning.{Wrote, Settled};
 ghost use Rattle.medium.specs.Trials.{Partly, Counted, CountsNoMore, StopsNow, TrialWrote, TrialSettled};
 
+use super::copy::copy_run;
 use super::fault::MediumFault;
-use super::medium::{Medium, good_run};
+use super::medium::Medium;
 use super::trial::Trial;
 use octets::patch;
 
@@ -53,9 +54,9 @@ fn patch_partly(bytes: &mut [u8], start: usize, run: &[u8], pattern: u64)
     requires { (start + length run.now ≤ length bytes.old) × (length run.now % 4 ≡ 0) }
     ensures { Partly pattern start run.now bytes.old bytes.new }
 {
-    for k in 0..run.len() / 4 {
+    for (k, word) in run.chunks_exact(4).enumerate() {
         if (pattern >> (k % 64)) % 2 == 1 {
-            patch(bytes, start + 4 * k, &run[4 * k..4 * k + 4]);
+            patch(bytes, start + 4 * k, word);
         }
     }
 }
@@ -76,14 +77,8 @@ impl Medium for Trial<'_> {
     }
 
     fn read(&self, page: usize, at: usize, out: &mut [u8]) -> Result<(), MediumFault> {
-        if !good_run(self.bytes.len() / 1024, page, at, out.len()) {
-            return Err(MediumFault::BadRun);
-        }
-        if self.stopped {
-            return Err(MediumFault::Stopped);
-        }
-        let start = page * 1024 + at;
-        out.copy_from_slice(&self.bytes[start..start + out.len()]);
+        self.admit(page, at, out.len())?;
+        copy_run(self.bytes, page, at, out);
         Ok(())
     }
 
@@ -92,12 +87,7 @@ impl Medium for Trial<'_> {
         ensures exactly { TrialWrote self.old self.new page at bytes.now result }
         ensures ends { CountsNoMore self.old self.new }
     {
-        if !good_run(self.bytes.len() / 1024, page, at, bytes.len()) {
-            return Err(MediumFault::BadRun);
-        }
-        if self.stopped {
-            return Err(MediumFault::Stopped);
-        }
+        self.admit(page, at, bytes.len())?;
         let start = page * 1024 + at;
         if self.stops_now() {
             let pattern = self.pattern;

@@ -1,6 +1,0 @@
-use Rattle.std.proofs.Common.{rules}
-use Rattle.medium.proofs.Writes.{read_is}
-use Rattle.medium.proofs.trials.TrialMedium.read.Goals as goal
-
-pub returns : goal.returns
-returns c = search (rules, read_is)
