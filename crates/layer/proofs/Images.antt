@@ -1,6 +1,7 @@
 -- Images that are held: where one is found, and what is found with one more or one less.
-use Rattle.std.proofs.Common.{◌≡◌, ℕ, zero, suc, ◌<◌, true, cond, eqb, List, [], ◌∷◌, ◌++◌, length, get_or, set, Some, None, sym, refl, ap, ◌∙◌, arith}
-use Rattle.std.proofs.lemmas.List.{get_or_read}
+use Rattle.std.proofs.Common.{◌≡◌, ℕ, zero, suc, ◌<◌, true, cond, eqb, List, [], ◌∷◌, ◌++◌, length, get_or, set, take, drop, length-set, Some, None, MatchOption, Option, sym, refl, ap, ◌∙◌, arith}
+use Rattle.std.specs.List.{AllWithin, HoldsAt, refill}
+use Rattle.std.proofs.Math.Seq.{take-append_seam}
 use Rattle.std.proofs.lemmas.Bool.{cond-true, cond-false, eq-eqb, ne_eqb}
 use Rattle.std.proofs.lemmas.Bool.Decides.{nat_tests}
 use Rattle.layer.specs.Distinct.{look, distinct}
@@ -14,7 +15,7 @@ Before hs p i = (k : ℕ) (d : Held) → k < i → (get_or hs k d).page ≡ p �
 later : (h : Held) (hs : List Held) (p i : ℕ) → Before (h ∷ hs) p (suc i) → Before hs p i
 later h hs p i before k d l = before (suc k) d (omega arith)
 
-pub placed_none : (hs : List Held) (p : ℕ) → Before hs p (length hs) → Placed hs p None
+placed_none : (hs : List Held) (p : ℕ) → Before hs p (length hs) → Placed hs p None
 placed_none [] p before = refl
 placed_none (h ∷ hs) p before =
     cond-false (eqb h.page p) (Some h.image) (look hs p) (ne_eqb h.page p (before 0 h (omega arith)))
@@ -36,8 +37,12 @@ placed_some (h ∷ hs) p (suc i) before l at =
           ∙ sym (cond-false (eqb h.page x.page) (x ∷ hs) (h ∷ put hs x) (ne_eqb h.page x.page (λ is. ne (is ∙ e)))),
     )
 
-pub placed_at : (hs : List Held) (p i : ℕ) (x : Held) → Before hs p i → i < length hs → x ≡ get_or hs i x → x.page ≡ p → Placed hs p (Some i)
-placed_at hs p i x before l is e = placed_some hs p i before l (λ d. ap (λ h. h.page) (sym (get_or_read hs i x l is d)) ∙ e)
+-- the first image of a page, where there is one
+pub placed_first : (hs : List Held) (p : ℕ) (r : Option ℕ)
+    → MatchOption r (AllWithin (λ h. h.page ≡ p → ⊥) hs 0 (length hs)) (λ i. (i < length hs) × HoldsAt (λ h. h.page ≡ p) hs i × AllWithin (λ h. h.page ≡ p → ⊥) hs 0 i)
+    → Placed hs p r
+placed_first hs p None none = placed_none hs p (λ k d. none k d (omega arith))
+placed_first hs p (Some i) (l, here, before) = placed_some hs p i (λ k d. before k d (omega arith)) l here
 
 -- an image of a page that is not held is put last
 pub put_last : (hs : List Held) (x : Held) → look hs x.page ≡ None → put hs x ≡ hs ++ x ∷ []
@@ -63,3 +68,10 @@ distinct_last hs gs x is e new = ap distinct (is ∙ sym (put_last hs x new)) �
 
 pub distinct_set : (hs : List Held) (p i : ℕ) (x old : Held) → Placed hs p (Some i) → old ≡ get_or hs i old → x.page ≡ old.page → distinct hs ≡ true → distinct (set hs i x) ≡ true
 distinct_set hs p i x old at is e once = ap distinct (at.2 x (e ∙ ap (λ h. h.page) is ∙ (at.1 old).0)) ∙ distinct_put hs x once
+
+-- an image put over another by a write of the whole list
+pub put_over : (hs ks : List Held) (i : ℕ) (x : Held) → ks ≡ hs → refill (length hs) hs (set ks i x) ≡ set hs i x
+put_over hs ks i x e =
+    ap (λ l. refill (length hs) hs (set l i x)) e
+    ∙ ap (λ n. take n (set hs i x ++ drop (length (set hs i x)) hs)) (sym (length-set hs i x))
+    ∙ take-append_seam (set hs i x) (drop (length (set hs i x)) hs)

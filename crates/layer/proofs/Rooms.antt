@@ -1,7 +1,7 @@
 -- Making room for one more image, and holding it.
-use Rattle.std.proofs.Common.{◌≡◌, ℕ, ◌<◌, ◌≤◌, Bool, true, false, ◌||◌, ltb, List, [], ◌∷◌, ◌++◌, length, get_or, set, is_some, Some, None, Ok, Err, MatchBool, Result, unwrap_or, sym, refl, ap, ◌∙◌, subst, arith}
+use Rattle.std.proofs.Common.{◌≡◌, ℕ, ◌<◌, Bool, true, false, ◌||◌, ltb, List, [], ◌∷◌, ◌++◌, length, get_or, set, is_some, Some, None, Ok, Err, MatchBool, Result, unwrap_or, sym, refl, ap, ◌∙◌, subst, arith}
 use Rattle.std.proofs.lemmas.List.{take_all}
-use Rattle.std.proofs.lemmas.Bool.{cond_both, cond-true, lt-ltb, ltb-true}
+use Rattle.std.proofs.lemmas.Bool.{cond_both, cond-true, lt-ltb}
 use Rattle.octets.specs.Parts.{part, patched}
 use Rattle.medium.specs.declared.fault.MediumFault.{MediumFault}
 use Rattle.medium.specs.declared.fault.MediumFault.TheVariants.{Stopped}
@@ -16,28 +16,12 @@ use Rattle.layer.proofs.Images.{look_rest, put_last}
 pub no_image : (m : Meaning) (hs : List Held) (p : ℕ) → look hs p ≡ None → image_of m hs p ≡ None
 no_image m hs p e = cond_both (ltb p m.pages) (look hs p) None (λ o. o ≡ None) (λ _. e) (λ _. refl)
 
--- once room is made, fewer than eight are held, and none that was not
-pub record Roomy (hs gs : List Held) : Type 0 where
-  pub few : length gs < 8
-  pub new : (p : ℕ) → look hs p ≡ None → look gs p ≡ None
-
 module _ {M : Type 0} (meaning : M → Meaning) (hs : List Held) (a : M) (gs : List Held) (b : M) where
-  evicted : (hs : List Held) → length hs ≤ 8 → MadeRoom meaning false hs a gs b (Ok tt) → Roomy hs gs
-  evicted [] l h = absurd h
-  evicted (x ∷ xs) l h = record {
-    few = omega (arith, ap length h.0);
-    new = λ p e. ap (λ k. look k p) h.0 ∙ look_rest x xs p e;
-  }
-
-  roomy : (t : Bool) → t ≡ ltb (length hs) 8 → length hs ≤ 8 → MadeRoom meaning t hs a gs b (Ok tt) → Roomy hs gs
-  roomy true e l h = record {
-    few = omega (arith, ap length h.1, ltb-true (length hs) 8 (sym e));
-    new = λ p n. ap (λ k. look k p) h.1 ∙ n;
-  }
-  roomy false e l h = evicted hs l h
-
-  pub made_room : length hs ≤ 8 → MadeRoom meaning (ltb (length hs) 8) hs a gs b (Ok tt) → Roomy hs gs
-  made_room = roomy (ltb (length hs) 8) refl
+  -- once room is made, none is held that was not
+  pub made_new : (t : Bool) (hs : List Held) (p : ℕ) → MadeRoom meaning t hs a gs b (Ok tt) → look hs p ≡ None → look gs p ≡ None
+  made_new true hs p h e = ap (λ k. look k p) h.1 ∙ e
+  made_new false [] p h e = absurd h
+  made_new false (x ∷ xs) p h e = ap (λ k. look k p) h.0 ∙ look_rest x xs p e
 
   room_stops : (t : Bool) (hs : List Held) (e : MediumFault) → MadeRoom meaning t hs a gs b (Err e) → e ≡ Stopped
   room_stops true hs e h = let r : ◌≡◌ {A = Result (Unit {0}) MediumFault} (Err e) (Ok tt) = h.0 in cc
@@ -62,13 +46,13 @@ module _ {M : Type 0} (meaning : M → Meaning) (hs : List Held) (a : M) (gs : L
 -- a page that is not held, fetched and held with a run put in
 pub puts_new : {M : Type 0} (meaning : M → Meaning) (hs : List Held) (a : M) (ks : List Held) (b : M) (gs : List Held) (x : Held) (p s : ℕ) (bytes image : List ℕ)
     → look hs p ≡ None → length ((meaning a).shown p) ≡ 1024 → image ≡ part ((meaning a).shown p) 0 1024
-    → x.page ≡ p → x.image ≡ patched image s bytes → length hs ≤ 8 → MadeRoom meaning (ltb (length hs) 8) hs a ks b (Ok tt) → gs ≡ ks ++ x ∷ []
+    → x.page ≡ p → x.image ≡ patched image s bytes → MadeRoom meaning (ltb (length hs) 8) hs a ks b (Ok tt) → gs ≡ ks ++ x ∷ []
     → Puts meaning hs a gs b p s bytes (Ok tt)
-puts_new meaning hs a ks b gs x p s bytes image new full read page is l made after =
+puts_new meaning hs a ks b gs x p s bytes image new full read page is made after =
     let whole : image ≡ (meaning a).shown p = read ∙ take_all 1024 ((meaning a).shown p) (omega arith) in
     let shown : (meaning a).shown p ≡ (holds (meaning a) hs).shown p =
     ap (λ o. unwrap_or o ((meaning a).shown p)) (sym (no_image (meaning a) hs p new)) in
-    let unheld : look ks x.page ≡ None = ap (look ks) page ∙ (made_room meaning hs a ks b l made).new p new in (
+    let unheld : look ks x.page ≡ None = ap (look ks) page ∙ made_new meaning hs a ks b (ltb (length hs) 8) hs p made new in (
       x,
       page,
       is ∙ ap (λ k. patched k s bytes) (whole ∙ shown),

@@ -1,5 +1,5 @@
 -- A medium with page images held over it.
-use Rattle.std.specs.Prelude.{◌≡◌, ℕ, ◌<◌, Bool, true, false, cond, ◌⊎◌, List, [], ◌∷◌, length, Some, None, vec_items, Option, MatchOption, ◌==◌, nat_lt, slice_index_or, slice_set, refl}
+use Rattle.std.specs.Prelude.{◌≡◌, ℕ, ◌<◌, Bool, true, false, cond, ◌⊎◌, List, [], ◌∷◌, length, Some, None, Option, MatchOption, ◌==◌, nat_lt, slice_index_or, slice_set, refl}
 use Rattle.std.proofs.Common.{inl, inr}
 use Rattle.std.specs.Option.{unwrap_or}
 use Rattle.octets.specs.Files.{word}
@@ -51,7 +51,7 @@ over_shows m image h = record {
 
 -- the images that a layer holds
 abbrev pub images : {M : Type 0} → Holding M → List Held
-images l = vec_items l.held
+images l = l.held.items
 
 -- what a holding layer means, with what the medium below means
 abbrev pub layered : {M : Type 0} → (M → Meaning) → Holding M → Meaning

@@ -1,6 +1,6 @@
 // A page image that a layer holds.
-ghost use Rattle.std.specs.Prelude.{◌≡◌, ◌+◌, ◌≤◌, length};
-ghost use Rattle.octets.specs.Parts.{patched};
+ghost use Rattle.std.specs.Prelude.{⊤, ◌≡◌, ◌+◌, ◌≤◌, length};
+ghost use Rattle.octets.specs.Parts.{part, patched};
 
 use octets::patch;
 
@@ -12,11 +12,33 @@ pub struct Held {
     ghost full: { length image ≡ 1024 },
 }
 
-// Puts bytes in place of those of an image from `at` on.
-pub(super) fn patch_image(image: &mut [u8; 1024], at: usize, bytes: &[u8])
-    requires { at + length bytes.now ≤ 1024 }
-    ensures full { length image.new ≡ 1024 }
-    ensures after { image.new ≡ patched image.old at bytes.now }
-{
-    patch(image, at, bytes);
+// What stands in a place where no image is held.
+impl Default for Held {
+    ghost is_default = { λ _. ⊤ };
+
+    fn default() -> Held {
+        Held {
+            page: 0,
+            image: [0; 1024],
+        }
+    }
+}
+
+impl Held {
+    // Copies the bytes of the image from `at` on into `out`.
+    pub(super) fn copy(&self, at: usize, out: &mut [u8])
+        requires { at + length out.old ≤ 1024 }
+        ensures { out.new ≡ part self.now.image at (length out.old) }
+    {
+        out.copy_from_slice(&self.image[at..at + out.len()]);
+    }
+
+    // Puts bytes in place of those of the image from `at` on.
+    pub(super) fn patch(&mut self, at: usize, bytes: &[u8])
+        requires { at + length bytes.now ≤ 1024 }
+        ensures page { self.new.page ≡ self.old.page }
+        ensures image { self.new.image ≡ patched self.old.image at bytes.now }
+    {
+        patch(&mut self.image, at, bytes);
+    }
 }

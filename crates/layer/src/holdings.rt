@@ -1,24 +1,24 @@
 // What a holding layer does.
-ghost use Rattle.std.specs.Prelude.{◌≡◌, ◌<◌, true, false, [], length, None, vec_len, MatchResult, OnOk, nat_lt};
+ghost use Rattle.std.specs.Prelude.{◌≡◌, ◌<◌, true, false, [], length, None, OnOk, nat_lt};
 ghost use Rattle.medium.specs.Cuts.{CutMedium};
 ghost use Rattle.medium.specs.Meaning.{Settled, Wrote, good};
 ghost use Rattle.layer.specs.Below.{Drains, Evicts, Flushed, HoldingCuts, Landed, MadeRoom, Puts};
 ghost use Rattle.layer.specs.Distinct.{look};
 ghost use Rattle.layer.specs.Holds.{Placed, holds_sized, image_of, images, layered, over_shows};
 
-use super::held::{Held, patch_image};
+use super::held::Held;
 use super::holding::Holding;
-use medium::{Cut, Medium, MediumFault, good_run};
-use std::alloc::Global;
+use arrayvec::ArrayVec;
+use medium::{Cut, Medium, MediumFault};
 
 impl<M: Medium> Holding<M> {
-    // A medium with nothing held over it, or the medium back where there is no memory.
-    pub fn new(medium: M, heap: Global) -> Result<Holding<M>, M>
-        ensures { MatchResult result (λ l. (l.medium ≡ medium) × (images l ≡ [])) (λ m. m ≡ medium) }
+    // A medium with nothing held over it.
+    pub fn new(medium: M) -> Holding<M>
+        ensures { (result.medium ≡ medium) × (images result ≡ []) }
     {
-        match Vec::with_capacity(heap, 8) {
-            Ok(held) => Ok(Holding { medium, held }),
-            Err(_) => Err(medium),
+        Holding {
+            medium,
+            held: ArrayVec::new(),
         }
     }
 
@@ -32,19 +32,14 @@ impl<M: Medium> Holding<M> {
 
     // Where a page is held.
     fn find(&self, page: usize) -> Option<usize>
-        ensures { Placed self.now.held.items page result }
+        ensures { Placed (images self.now) page result }
     {
-        for (i, h) in self.held.iter().enumerate() {
-            if h.page == page {
-                return Some(i);
-            }
-        }
-        None
+        self.held.iter().position(|h| h.page == page)
     }
 
     // The image that is held longest goes below.
     fn evict(&mut self) -> Result<(), MediumFault>
-        requires some { 0 < vec_len self.old.held }
+        requires some { 0 < length (images self.old) }
         requires runs { (M.Medium.meaning self.old.medium).stopped ≡ false }
         ensures { Evicts M.Medium.meaning (images self.old) self.old.medium (images self.new) self.new.medium result }
     {
@@ -78,7 +73,8 @@ impl<M: Medium> Holding<M> {
     // Where eight images are held, one goes below.
     fn make_room(&mut self) -> Result<(), MediumFault>
         requires { (M.Medium.meaning self.old.medium).stopped ≡ false }
-        ensures { MadeRoom M.Medium.meaning (nat_lt (length (images self.old)) 8) (images self.old) self.old.medium (images self.new) self.new.medium result }
+        ensures made { MadeRoom M.Medium.meaning (nat_lt (length (images self.old)) 8) (images self.old) self.old.medium (images self.new) self.new.medium result }
+        ensures room { OnOk result (length (images self.new) < 8) }
     {
         if self.held.len() < 8 {
             Ok(())
@@ -97,8 +93,9 @@ impl<M: Medium> Holding<M> {
         let mut image = [0; 1024];
         self.medium.read(page, 0, &mut image)?;
         self.make_room()?;
-        patch_image(&mut image, at, bytes);
-        self.held.push_reserved(Held { page, image });
+        let mut held = Held { page, image };
+        held.patch(at, bytes);
+        self.held.push(held);
         Ok(())
     }
 }
@@ -119,15 +116,10 @@ impl<M: Medium> Medium for Holding<M> {
     }
 
     fn read(&self, page: usize, at: usize, out: &mut [u8]) -> Result<(), MediumFault> {
-        if !good_run(self.medium.pages(), page, at, out.len()) {
-            return Err(MediumFault::BadRun);
-        }
-        if self.medium.stopped() {
-            return Err(MediumFault::Stopped);
-        }
+        self.admit(page, at, out.len())?;
         match self.find(page) {
             Some(i) => {
-                out.copy_from_slice(&self.held[i].image[at..at + out.len()]);
+                self.held[i].copy(at, out);
                 Ok(())
             }
             None => self.medium.read(page, at, out),
@@ -138,15 +130,10 @@ impl<M: Medium> Medium for Holding<M> {
         ensures wrote { Wrote (layered M.Medium.meaning self.old) (layered M.Medium.meaning self.new) page at bytes.now result }
         ensures below { Puts M.Medium.meaning (images self.old) self.old.medium (images self.new) self.new.medium page at bytes.now result }
     {
-        if !good_run(self.medium.pages(), page, at, bytes.len()) {
-            return Err(MediumFault::BadRun);
-        }
-        if self.medium.stopped() {
-            return Err(MediumFault::Stopped);
-        }
+        self.admit(page, at, bytes.len())?;
         match self.find(page) {
             Some(i) => {
-                patch_image(&mut self.held[i].image, at, bytes);
+                self.held[i].patch(at, bytes);
                 Ok(())
             }
             None => self.hold(page, at, bytes),

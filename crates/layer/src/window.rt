@@ -57,6 +57,7 @@ impl<M: Medium> Medium for Window<M> {
         self.medium.stopped()
     }
 
+    // A bad run does not come down; whether the medium has stopped is asked below, and not here too.
     fn read(&self, page: usize, at: usize, out: &mut [u8]) -> Result<(), MediumFault> {
         if !good_run(self.pages(), page, at, out.len()) {
             return Err(MediumFault::BadRun);

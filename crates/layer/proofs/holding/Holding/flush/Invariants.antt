@@ -1,4 +1,4 @@
-use Rattle.std.proofs.Common.{◌≡◌, false, List, vec_len}
+use Rattle.std.proofs.Common.{◌≡◌, false, List, length}
 use Rattle.layer.specs.Below.{Flushes, Halts}
 use Rattle.layer.specs.Holds.{images}
 use Rattle.layer.specs.declared.held.Held.{Held}
@@ -14,4 +14,4 @@ invariant-loop-self g l =
     → Halts g.M.Medium.meaning (images l.initial.self) l.initial.self.medium gs y)
 
 abbrev pub decreases-loop-self : goal.decreases-loop-self
-decreases-loop-self g l = vec_len l.self.held
+decreases-loop-self g l = length (images l.self)
