@@ -68,3 +68,7 @@ Placed hs p None = look hs p ≡ None
 Placed hs p (Some i) =
     (i < length hs) × ((d : Held) → ((slice_index_or hs i d).page ≡ p) × (look hs p ≡ Some (slice_index_or hs i d).image))
     × ((x : Held) → x.page ≡ p → slice_set hs i x ≡ put hs x)
+
+-- what is run over a holding layer: it was given one that holds nothing, and below what it left is what is there now
+abbrev pub HeldBack : {M R : Type 0} → (Holding M → Holding M × R → Type 0) → M → M × R → Type 0
+HeldBack {M} ran m (n, r) = (v : Holding M) × (w : Holding M) × (v.medium ≡ m) × (images v ≡ []) × (w.medium ≡ n) × ran v (w, r)

@@ -44,3 +44,8 @@ pub record WindowCuts {M : Type 0} (meaning : M → Meaning) (cuts : M → M →
   pub place : SamePlace v w
   pub below : CutMedium (meaning v.medium) (meaning w.medium)
   pub exactly : cuts v.medium w.medium
+
+-- what is run through a window: it was given a window that lies so, and below what it left is what is there now
+abbrev pub Through : {M R : Type 0} → (Window M → Window M × R → Type 0) → ℕ → ℕ → M → M × R → Type 0
+Through {M} ran first count m (n, r) =
+    (v : Window M) × (w : Window M) × (v.medium ≡ m) × (v.first ≡ first) × (v.count ≡ count) × (w.medium ≡ n) × ran v (w, r)
