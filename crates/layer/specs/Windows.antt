@@ -1,7 +1,8 @@
 -- Some pages of a medium, as a medium of their own.
-use Rattle.std.specs.Prelude.{◌≡◌, ℕ, ◌+◌, ◌-◌, min, true, false, List, length, Result}
+use Rattle.std.specs.Prelude.{◌≡◌, ℕ, ◌+◌, ◌-◌, min, true, false, List, length, Ok, Err, Result}
 use Rattle.std.proofs.Common.{arith}
 use Rattle.medium.specs.declared.fault.MediumFault.{MediumFault}
+use Rattle.medium.specs.declared.fault.MediumFault.TheVariants.{BadRun}
 use Rattle.medium.specs.Cuts.{CutMedium}
 use Rattle.medium.specs.Meaning.{Meaning, Sized, Shows, Wrote, good}
 use Rattle.layer.specs.declared.window.Window.{Window}
@@ -26,6 +27,11 @@ windowed_shows m first count h = record { shown_possible = λ runs p k l less. h
 -- a window onto a medium, with what that medium means
 abbrev pub seen : {M : Type 0} → (M → Meaning) → Window M → Meaning
 seen meaning w = windowed (meaning w.medium) w.first w.count
+
+-- the page below on which a run of n bytes lies, from byte s of page p of such a window on; a bad run lies on none
+abbrev pub LiesBelow : Meaning → ℕ → ℕ → ℕ → ℕ → Result ℕ MediumFault → Type 0
+LiesBelow m first p s n (Ok q) = (good m.pages p s n ≡ true) × (q ≡ first + p)
+LiesBelow m first p s n (Err e) = (good m.pages p s n ≡ false) × (e ≡ BadRun)
 
 -- the window lies where it lay
 pub record SamePlace {M : Type 0} (v w : Window M) : Type 0 where

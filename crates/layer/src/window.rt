@@ -2,7 +2,7 @@
 ghost use Rattle.std.specs.Prelude.{◌≡◌, ◌+◌, ◌^◌, ◌<◌};
 ghost use Rattle.medium.specs.Cuts.{CutMedium};
 ghost use Rattle.medium.specs.Meaning.{Settled, Wrote};
-ghost use Rattle.layer.specs.Windows.{PassedOn, SamePlace, WindowCuts, seen, windowed_sized, windowed_shows};
+ghost use Rattle.layer.specs.Windows.{LiesBelow, PassedOn, SamePlace, WindowCuts, seen, windowed_sized, windowed_shows};
 
 use medium::{Cut, Medium, MediumFault, good_run};
 
@@ -36,6 +36,16 @@ impl<M: Medium> Window<M> {
         } = self;
         medium
     }
+
+    // The page below that a good run lies on. A bad run does not come down.
+    fn below(&self, page: usize, at: usize, len: usize) -> Result<usize, MediumFault>
+        ensures { LiesBelow (seen M.Medium.meaning self.now) self.now.first page at len result }
+    {
+        if !good_run(self.pages(), page, at, len) {
+            return Err(MediumFault::BadRun);
+        }
+        Ok(self.first + page)
+    }
 }
 
 impl<M: Medium> Medium for Window<M> {
@@ -57,12 +67,10 @@ impl<M: Medium> Medium for Window<M> {
         self.medium.stopped()
     }
 
-    // A bad run does not come down; whether the medium has stopped is asked below, and not here too.
+    // Whether the medium has stopped is asked below.
     fn read(&self, page: usize, at: usize, out: &mut [u8]) -> Result<(), MediumFault> {
-        if !good_run(self.pages(), page, at, out.len()) {
-            return Err(MediumFault::BadRun);
-        }
-        self.medium.read(self.first + page, at, out)
+        let below = self.below(page, at, out.len())?;
+        self.medium.read(below, at, out)
     }
 
     // A good run is written below, at the same byte of page `first + page`. A bad run does not come down.
@@ -70,10 +78,8 @@ impl<M: Medium> Medium for Window<M> {
         ensures wrote { Wrote (seen M.Medium.meaning self.old) (seen M.Medium.meaning self.new) page at bytes.now result }
         ensures below { PassedOn M.Medium.meaning self.old self.new page at bytes.now result }
     {
-        if !good_run(self.pages(), page, at, bytes.len()) {
-            return Err(MediumFault::BadRun);
-        }
-        self.medium.write(self.first + page, at, bytes)
+        let below = self.below(page, at, bytes.len())?;
+        self.medium.write(below, at, bytes)
     }
 
     // The medium below is settled.

@@ -1,7 +1,7 @@
 // Raw calls on a medium, printed as they are made.
 use medium::{Medium, MediumFault};
-use std::io;
 use std::io::Write;
+use std::{fmt, io};
 use text::Hex;
 
 // A call: a run of words that is read, or filled with a byte, or a settle.
@@ -21,12 +21,16 @@ pub enum Call {
     Settle,
 }
 
-// What a call answered, in a word or two.
-fn said(answer: Result<(), MediumFault>) -> &'static str {
-    match answer {
-        Ok(()) => "ok",
-        Err(MediumFault::BadRun) => "bad run",
-        Err(MediumFault::Stopped) => "stopped",
+// What a call answered: `ok`, or why the medium refused.
+#[derive(Clone, Copy)]
+struct Said(Result<(), MediumFault>);
+
+impl fmt::Display for Said {
+    fn fmt<W: fmt::Write>(&self, f: &mut fmt::Formatter<W>) -> fmt::Result {
+        match self.0 {
+            Ok(()) => f.write_str("ok"),
+            Err(fault) => write!(f, "{fault}"),
+        }
     }
 }
 
@@ -38,7 +42,7 @@ fn make_read<M: Medium, W: Write>(
     bytes: &mut [u8],
     out: &mut W,
 ) -> io::Result<()> {
-    let answer = said(medium.read(page, at, bytes));
+    let answer = Said(medium.read(page, at, bytes));
     let hex = Hex(bytes);
     writeln!(out, "  read page {page} byte {at}: {answer} {hex}")
 }
@@ -51,7 +55,7 @@ fn make_write<M: Medium, W: Write>(
     bytes: &[u8],
     out: &mut W,
 ) -> io::Result<()> {
-    let answer = said(medium.write(page, at, bytes));
+    let answer = Said(medium.write(page, at, bytes));
     let hex = Hex(bytes);
     writeln!(out, "  write page {page} byte {at} {hex}: {answer}")
 }
@@ -73,7 +77,7 @@ fn make<M: Medium, W: Write>(medium: &mut M, call: Call, out: &mut W) -> io::Res
             fill,
         } => make_write(medium, page, at, &[fill; 16][0..4 * words.min(4)], out),
         Call::Settle => {
-            let answer = said(medium.settle());
+            let answer = Said(medium.settle());
             writeln!(out, "  settle: {answer}")
         }
     }

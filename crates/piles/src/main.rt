@@ -6,9 +6,8 @@ mod calls;
 mod tests;
 
 use calls::{Call, run, show};
-use layer::{Holding, Window};
+use layer::{holding_back, through};
 use medium::{Cut, Trial};
-use std::alloc::Global;
 use std::io;
 use std::io::{BufWriter, Write};
 
@@ -56,29 +55,16 @@ fn try_calls<M: Cut, W: Write>(medium: &mut M, out: &mut W) -> io::Result<()> {
     show(medium, out)
 }
 
-// The same through a window onto the pages from the second on.
-fn try_window<M: Cut, W: Write>(medium: M, out: &mut W) -> (M, io::Result<()>) {
-    let mut window = Window::new(medium, 1, 4);
-    let done = try_calls(&mut window, out);
-    (window.into_medium(), done)
-}
-
-// The same over a layer that holds pages back.
-fn try_hold<M: Cut, W: Write>(medium: M, heap: Global, out: &mut W) -> (M, io::Result<()>) {
-    match Holding::new(medium, heap) {
-        Ok(hold) => {
-            let (hold, done) = try_window(hold, out);
-            (hold.into_medium(), done)
-        }
-        Err(medium) => (medium, writeln!(out, "no memory")),
-    }
-}
-
 // The pile over a trial medium of five pages that stops in call `stop`.
-fn try_pile<W: Write>(heap: Global, out: &mut W, stop: u32, pattern: u64) -> io::Result<()> {
+fn try_pile<W: Write>(out: &mut W, stop: u32, pattern: u64) -> io::Result<()> {
     let mut bytes = [0; 5120];
     writeln!(out, "window 1 4 hold trial 5 {stop} {pattern}")?;
-    let (trial, done) = try_hold(Trial::new(&mut bytes, stop, pattern), heap, out);
+    let (trial, done) = holding_back(Trial::new(&mut bytes, stop, pattern), |hold| {
+        through(hold, 1, 4, |mut window| {
+            let done = try_calls(&mut window, out);
+            (window, done)
+        })
+    });
     let _ = trial.into_bytes();
     done
 }
@@ -86,7 +72,7 @@ fn try_pile<W: Write>(heap: Global, out: &mut W, stop: u32, pattern: u64) -> io:
 fn try_all(rt: &HostRuntime) -> io::Result<()> {
     let mut out = BufWriter::new(rt.alloc(), rt.stdout())?;
     for (stop, pattern) in [(0, 0), (2, 0), (4, 3), (5, 0)] {
-        try_pile(rt.alloc(), &mut out, stop, pattern)?;
+        try_pile(&mut out, stop, pattern)?;
     }
     out.flush()
 }

@@ -1,20 +1,15 @@
 // Small runs on trial media, and many pages through a holding layer.
-use layer::{Holding, Window};
-use medium::{Medium, Memory, Trial};
-use std::alloc::Global;
+use layer::{holding_back, through};
+use medium::{Medium, MediumFault, Memory, Trial};
 
 // How many of two writes and a settle are accepted, up to the first that is not.
-fn accepted<M: Medium>(medium: &mut M) -> u32 {
-    if medium.write(0, 0, &[1; 8]).is_err() {
-        return 0;
-    }
-    if medium.write(1, 4, &[2; 8]).is_err() {
-        return 1;
-    }
-    if medium.settle().is_err() {
-        return 2;
-    }
-    3
+fn accepted<M: Medium>(medium: &mut M) -> usize {
+    let answers = [
+        medium.write(0, 0, &[1; 8]),
+        medium.write(1, 4, &[2; 8]),
+        medium.settle(),
+    ];
+    answers.iter().take_while(|answer| answer.is_ok()).count()
 }
 
 // Whether a word of four equal bytes stands at a place.
@@ -33,7 +28,13 @@ fn a_trial_medium_stops_where_it_was_told(rt: HostRuntime) {
             // a bad run is not counted, and is refused as such by a stopped medium too
             let bad = trial.write(2, 0, &[0; 4]).is_err();
             let left = trial.into_bytes();
-            assert!(rt; n == if stop == 0 || stop == 4 { 3 } else { stop - 1 });
+            assert!(rt;
+                n == if stop == 0 || stop == 4 {
+                    3
+                } else {
+                    stop as usize - 1
+                }
+            );
             assert!(rt; stopped == (stop > 0 && stop < 4) && bad);
             assert!(rt; word(left, 0, if stop == 1 && pattern % 2 == 0 { 0 } else { 1 }));
             assert!(rt;
@@ -73,74 +74,55 @@ fn a_trial_medium_stops_where_it_was_told(rt: HostRuntime) {
     }
 }
 
-// Writes to nine pages through a holding layer, to the first of them twice.
-fn write_nine<M: Medium>(medium: M, heap: Global) -> (M, bool) {
-    match Holding::new(medium, heap) {
-        Ok(mut hold) => {
-            let mut good = true;
-            for (page, fill) in [
-                (0, 1),
-                (1, 2),
-                (2, 3),
-                (3, 4),
-                (4, 5),
-                (5, 6),
-                (6, 7),
-                (7, 8),
-                (0, 9),
-                (8, 10),
-            ] {
-                good = good && hold.write(page, 0, &[fill; 4]).is_ok();
-            }
-            (hold.into_medium(), good)
-        }
-        Err(medium) => (medium, false),
+// Writes to nine pages, to the first of them twice.
+fn write_nine<M: Medium>(medium: &mut M) -> Result<(), MediumFault> {
+    for (page, fill) in [
+        (0, 1),
+        (1, 2),
+        (2, 3),
+        (3, 4),
+        (4, 5),
+        (5, 6),
+        (6, 7),
+        (7, 8),
+        (0, 9),
+        (8, 10),
+    ] {
+        medium.write(page, 0, &[fill; 4])?;
     }
+    Ok(())
 }
 
 #[test]
 fn nine_pages_through_a_holding_layer(rt: HostRuntime) {
     let mut bytes = [0; 10240];
-    let (memory, good) = write_nine(Memory::new(&mut bytes), rt.alloc());
+    let (memory, done) = holding_back(Memory::new(&mut bytes), |mut hold| {
+        let done = write_nine(&mut hold);
+        (hold, done)
+    });
     let left = memory.into_bytes();
     // the ninth page pushed out the first, which was written twice and kept its age
-    assert!(rt; good && word(left, 0, 9) && word(left, 1024, 0) && word(left, 8192, 0));
+    assert!(rt; done.is_ok() && word(left, 0, 9) && word(left, 1024, 0) && word(left, 8192, 0));
 }
 
-// Writes and settles through a holding layer.
-fn settle_held<M: Medium>(medium: M, heap: Global) -> (M, bool) {
-    match Holding::new(medium, heap) {
-        Ok(mut hold) => {
-            let good = hold.pages() == 3
-                && hold.write(2, 4, &[7; 4]).is_ok()
-                && hold.settle().is_ok();
-            (hold.into_medium(), good)
-        }
-        Err(medium) => (medium, false),
-    }
-}
-
-// The same over a window onto what lies below.
-fn settle_window<M: Medium>(medium: M, heap: Global) -> (M, bool) {
-    let (window, good) = settle_held(Window::new(medium, 1, 9), heap);
-    (window.into_medium(), good)
-}
-
-// And that over another holding layer.
-fn settle_pile<M: Medium>(medium: M, heap: Global) -> (M, bool) {
-    match Holding::new(medium, heap) {
-        Ok(hold) => {
-            let (hold, good) = settle_window(hold, heap);
-            (hold.into_medium(), good)
-        }
-        Err(medium) => (medium, false),
-    }
+// Writes and settles, and counts the pages.
+fn settle_third<M: Medium>(medium: &mut M) -> Result<usize, MediumFault> {
+    medium.write(2, 4, &[7; 4])?;
+    medium.settle()?;
+    Ok(medium.pages())
 }
 
 #[test]
 fn a_pile_of_three_layers_settles_down(rt: HostRuntime) {
     let mut bytes = [0; 4096];
-    let (memory, good) = settle_pile(Memory::new(&mut bytes), rt.alloc());
+    let (memory, done) = holding_back(Memory::new(&mut bytes), |hold| {
+        through(hold, 1, 9, |window| {
+            holding_back(window, |mut top| {
+                let done = settle_third(&mut top);
+                (top, done)
+            })
+        })
+    });
     let left = memory.into_bytes();
-    assert!(rt; good && word(left, 3076, 7));
+    assert!(rt; done == Ok(3) && word(left, 3076, 7));
 }
