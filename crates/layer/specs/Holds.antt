@@ -1,6 +1,7 @@
 -- A medium with page images held over it.
 use Rattle.std.specs.Prelude.{◌≡◌, ℕ, ◌<◌, Bool, true, false, cond, ◌⊎◌, List, [], ◌∷◌, length, Some, None, Option, MatchOption, ◌==◌, nat_lt, slice_index_or, slice_set, refl}
 use Rattle.std.proofs.Common.{inl, inr}
+use Rattle.std.specs.Borrow.{MutBor}
 use Rattle.std.specs.Option.{unwrap_or}
 use Rattle.octets.specs.Files.{word}
 use Rattle.medium.specs.Meaning.{Meaning, Sized, Shows}
@@ -69,6 +70,9 @@ Placed hs p (Some i) =
     (i < length hs) × ((d : Held) → ((slice_index_or hs i d).page ≡ p) × (look hs p ≡ Some (slice_index_or hs i d).image))
     × ((x : Held) → x.page ≡ p → slice_set hs i x ≡ put hs x)
 
--- what is run over a holding layer: it was given one that holds nothing, and below what it left is what is there now
-abbrev pub HeldBack : {M R : Type 0} → (Holding M → Holding M × R → Type 0) → M → M × R → Type 0
-HeldBack {M} ran m (n, r) = (v : Holding M) × (w : Holding M) × (v.medium ≡ m) × (images v ≡ []) × (w.medium ≡ n) × ran v (w, r)
+-- what is run over a holding layer, with a state lent to it: it was given one that holds nothing, and below what it left is
+-- what is there now
+abbrev pub HeldBack : {M S R : Type 0} → (Holding M → MutBor S → Holding M × R → MutBor S → Type 0) → M → S → M × R → S → Type 0
+HeldBack {M} {S} ran m s (n, r) t =
+    (v : Holding M) × (w : Holding M) × (x : MutBor S) × (y : MutBor S) × (v.medium ≡ m) × (images v ≡ []) × (w.medium ≡ n)
+    × (x.now ≡ s) × (y.now ≡ t) × ran v x (w, r) y

@@ -1,6 +1,7 @@
 -- Some pages of a medium, as a medium of their own.
 use Rattle.std.specs.Prelude.{◌≡◌, ℕ, ◌+◌, ◌-◌, min, true, false, List, length, Ok, Err, Result}
 use Rattle.std.proofs.Common.{arith}
+use Rattle.std.specs.Borrow.{MutBor}
 use Rattle.medium.specs.declared.fault.MediumFault.{MediumFault}
 use Rattle.medium.specs.declared.fault.MediumFault.TheVariants.{BadRun}
 use Rattle.medium.specs.Cuts.{CutMedium}
@@ -51,7 +52,9 @@ pub record WindowCuts {M : Type 0} (meaning : M → Meaning) (cuts : M → M →
   pub below : CutMedium (meaning v.medium) (meaning w.medium)
   pub exactly : cuts v.medium w.medium
 
--- what is run through a window: it was given a window that lies so, and below what it left is what is there now
-abbrev pub Through : {M R : Type 0} → (Window M → Window M × R → Type 0) → ℕ → ℕ → M → M × R → Type 0
-Through {M} ran first count m (n, r) =
-    (v : Window M) × (w : Window M) × (v.medium ≡ m) × (v.first ≡ first) × (v.count ≡ count) × (w.medium ≡ n) × ran v (w, r)
+-- what is run through a window, with a state lent to it: it was given a window that lies so, and below what it left is what
+-- is there now
+abbrev pub Through : {M S R : Type 0} → (Window M → MutBor S → Window M × R → MutBor S → Type 0) → ℕ → ℕ → M → S → M × R → S → Type 0
+Through {M} {S} ran first count m s (n, r) t =
+    (v : Window M) × (w : Window M) × (x : MutBor S) × (y : MutBor S) × (v.medium ≡ m) × (v.first ≡ first) × (v.count ≡ count)
+    × (w.medium ≡ n) × (x.now ≡ s) × (y.now ≡ t) × ran v x (w, r) y

@@ -1,5 +1,5 @@
-use Rattle.std.proofs.Common.{rules}
+use Rattle.std.proofs.Common.{refl, rules}
 use Rattle.layer.proofs.runs.holding_back.Goals as goal
 
 pub returns : goal.returns
-returns g c = (c.new.result, c.run-hold.result.0, search rules, search rules, search rules, search rules)
+returns g c = (c.new.result, c.run-hold.result.0, _, _, search rules, search rules, search rules, refl, refl, c.run-hold.ensures)
