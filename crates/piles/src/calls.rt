@@ -1,4 +1,7 @@
 // Raw calls on a medium, printed as they are made.
+ghost use Rattle.std.specs.Prelude.{Some};
+ghost use Rattle.piles.specs.Texts.{said_text};
+
 use medium::{Medium, MediumFault};
 use std::io::Write;
 use std::{fmt, io};
@@ -26,6 +29,8 @@ pub enum Call {
 struct Said(Result<(), MediumFault>);
 
 impl fmt::Display for Said {
+    ghost output = { λ s. Some (said_text s.0) };
+
     fn fmt<W: fmt::Write>(&self, f: &mut fmt::Formatter<W>) -> fmt::Result {
         match self.0 {
             Ok(()) => f.write_str("ok"),

@@ -55,16 +55,21 @@ fn try_calls<M: Cut, W: Write>(medium: &mut M, out: &mut W) -> io::Result<()> {
     show(medium, out)
 }
 
+// The same through a window, onto the pages from the second on, onto a layer that holds pages back.
+fn try_layers<M: Cut, W: Write>(medium: M, out: &mut W) -> (M, io::Result<()>) {
+    holding_back(medium, out, |hold, out| {
+        through(hold, 1, 4, out, |mut window, out| {
+            let done = try_calls(&mut window, out);
+            (window, done)
+        })
+    })
+}
+
 // The pile over a trial medium of five pages that stops in call `stop`.
 fn try_pile<W: Write>(out: &mut W, stop: u32, pattern: u64) -> io::Result<()> {
     let mut bytes = [0; 5120];
     writeln!(out, "window 1 4 hold trial 5 {stop} {pattern}")?;
-    let (trial, done) = holding_back(Trial::new(&mut bytes, stop, pattern), |hold| {
-        through(hold, 1, 4, |mut window| {
-            let done = try_calls(&mut window, out);
-            (window, done)
-        })
-    });
+    let (trial, done) = try_layers(Trial::new(&mut bytes, stop, pattern), out);
     let _ = trial.into_bytes();
     done
 }

@@ -93,13 +93,18 @@ fn write_nine<M: Medium>(medium: &mut M) -> Result<(), MediumFault> {
     Ok(())
 }
 
+// The same through a holding layer.
+fn write_nine_held<M: Medium>(medium: M) -> (M, Result<(), MediumFault>) {
+    holding_back(medium, &mut (), |mut hold, _| {
+        let done = write_nine(&mut hold);
+        (hold, done)
+    })
+}
+
 #[test]
 fn nine_pages_through_a_holding_layer(rt: HostRuntime) {
     let mut bytes = [0; 10240];
-    let (memory, done) = holding_back(Memory::new(&mut bytes), |mut hold| {
-        let done = write_nine(&mut hold);
-        (hold, done)
-    });
+    let (memory, done) = write_nine_held(Memory::new(&mut bytes));
     let left = memory.into_bytes();
     // the ninth page pushed out the first, which was written twice and kept its age
     assert!(rt; done.is_ok() && word(left, 0, 9) && word(left, 1024, 0) && word(left, 8192, 0));
@@ -112,17 +117,22 @@ fn settle_third<M: Medium>(medium: &mut M) -> Result<usize, MediumFault> {
     Ok(medium.pages())
 }
 
-#[test]
-fn a_pile_of_three_layers_settles_down(rt: HostRuntime) {
-    let mut bytes = [0; 4096];
-    let (memory, done) = holding_back(Memory::new(&mut bytes), |hold| {
-        through(hold, 1, 9, |window| {
-            holding_back(window, |mut top| {
+// The same through a holding layer over a window onto another holding layer.
+fn settle_pile<M: Medium>(medium: M) -> (M, Result<usize, MediumFault>) {
+    holding_back(medium, &mut (), |hold, state| {
+        through(hold, 1, 9, state, |window, state| {
+            holding_back(window, state, |mut top, _| {
                 let done = settle_third(&mut top);
                 (top, done)
             })
         })
-    });
+    })
+}
+
+#[test]
+fn a_pile_of_three_layers_settles_down(rt: HostRuntime) {
+    let mut bytes = [0; 4096];
+    let (memory, done) = settle_pile(Memory::new(&mut bytes));
     let left = memory.into_bytes();
     assert!(rt; done == Ok(3) && word(left, 3076, 7));
 }
