@@ -1,5 +1,5 @@
 // A page image that a layer holds.
-ghost use Rattle.std.specs.Prelude.{⊤, ◌≡◌, ◌+◌, ◌≤◌, length};
+ghost use Rattle.std.specs.Prelude.{◌≡◌, ◌+◌, ◌≤◌, length, replicate};
 ghost use Rattle.octets.specs.Parts.{part, patched};
 
 use octets::patch;
@@ -14,7 +14,7 @@ pub struct Held {
 
 // What stands in a place where no image is held.
 impl Default for Held {
-    ghost is_default = { λ _. ⊤ };
+    ghost is_default = { λ h. (h.page ≡ 0) × (h.image ≡ replicate 1024 0) };
 
     fn default() -> Held {
         Held {
