@@ -7,21 +7,17 @@ ghost use Rattle.guard.specs.Clears.{Clears};
 ghost use Rattle.guard.specs.Changes.{Begins, Puts, Replaces, Removes, TakesBack, TakesDraftBack, Saves};
 
 // Whatever an open edit has left of a page, word by word, reads as last saved.
-pub fn guards() -> u8
+pub fn guards()
     ensures { Guards }
-{
-    0
-}
+{}
 
 // Clearing a number that was never saved keeps what is saved.
-pub fn clears() -> u8
+pub fn clears()
     ensures { Clears }
-{
-    0
-}
+{}
 
 // What beginning, changing, taking back and saving do to a page's draft.
-pub fn changes() -> u8
+pub fn changes()
     ensures begins { Begins }
     ensures puts { Puts }
     ensures replaces { Replaces }
@@ -29,9 +25,7 @@ pub fn changes() -> u8
     ensures takes_back { TakesBack }
     ensures takes_draft_back { TakesDraftBack }
     ensures saves { Saves }
-{
-    0
-}
+{}
 
 // How many laws stand here: whatever an open edit has left of a page, word by word, reads as last saved; clearing a number
 // that was never saved keeps what is saved; and what beginning, changing, taking back and saving do to a page's draft. Of taking
