@@ -1,21 +1,29 @@
 -- The page that a change leaves.
-use Rattle.std.proofs.Common.{◌≡◌, ℕ, ◌+◌, ◌<◌, List, length, None, Ok, Err, Result, sym, ap, ◌∙◌}
+use Rattle.std.proofs.Common.{◌≡◌, ℕ, ◌+◌, ◌<◌, List, ◌++◌, length, take, None, Ok, Err, Option, Result, sym, ap, ◌∙◌}
 use Rattle.std.specs.List.{remove}
 use Rattle.octets.specs.Parts.{patched}
 use Rattle.layout.specs.declared.header.Side.{Side}
 use Rattle.layout.specs.declared.header.Slot.{Slot}
+use Rattle.layout.specs.declared.header.Header.{Header}
+use Rattle.layout.specs.Pages.{slots_by, valid}
 use Rattle.layout.specs.Walks.{keyed}
 use Rattle.draft.specs.declared.refusal.PageRefusal.{PageRefusal}
 use Rattle.draft.specs.declared.refusal.PageRefusal.TheVariants.{KeyInDraft, NoSuchKey, DraftFull, NoPlace}
 use Rattle.draft.specs.Added.{Added}
 use Rattle.draft.specs.Drafts.{draft_records, draft_slots, put_in, taken_out, target}
-use Rattle.draft.specs.Images.{ChangedPage, PutPage, placed, record_bytes, slot_at, with_header}
+use Rattle.draft.specs.Images.{ChangedPage, PutPage, busy, placed, record_bytes, slot_at, with_header}
 
 -- what a removal leaves of the draft's slots
 pub taken_is : (page : List ℕ) (key i : ℕ) (ds ss ts : List Slot) → ss ≡ ds → ts ≡ remove ss i → taken_out page key ds ≡ remove ds i → ts ≡ taken_out page key ds
 taken_is page key i ds ss ts e p q = p ∙ ap (λ xs. remove xs i) e ∙ sym q
 
 module _ (counter : ℕ) (page new : List ℕ) (key : ℕ) (value : List ℕ) where
+  -- the slots that a record must not touch
+  pub busy_is : (ys bs xs ss : List Slot) (h : Option Header) → ys ≡ xs → xs ≡ take 24 (slots_by page h) → h ≡ valid counter page → bs ≡ ss
+      → ys ++ bs ≡ busy counter page ss
+  busy_is ys bs xs ss h p q e r =
+      ap (λ x. x ++ bs) (p ∙ q ∙ ap (λ o. take 24 (slots_by page o)) e) ∙ ap (λ y. take 24 (slots_by page (valid counter page)) ++ y) r
+
   -- a record and then a header with its slot
   pub placed_is : (mid : List ℕ) (side : Side) (ss ts : List Slot) (p : ℕ) → mid ≡ patched page p (record_bytes key value) → side ≡ target counter page
       → ts ≡ put_in page key (slot_at p value) ss → new ≡ with_header mid side (counter + 1) ts → new ≡ placed counter page key value ss p

@@ -21,6 +21,7 @@ fn write_slots(page: &mut [u8], at: usize, slots: &[Slot])
     requires { at + 4 * length slots.now ≤ length page.old }
     ensures { page.new ≡ patched page.old at (flat_map slot_bytes slots.now) }
 {
+    // by index: what is written through chunks that are lent is not known afterwards
     for (k, slot) in slots.iter().enumerate() {
         write_slot(page, at + 4 * k, *slot);
     }

@@ -2,13 +2,13 @@
 #![tactic(auto)]
 
 mod changes;
+mod draft;
 mod header;
 mod load;
 mod order;
 mod place;
 mod refusal;
-mod scratch;
 mod write;
 
+pub use draft::Draft;
 pub use refusal::PageRefusal;
-pub use scratch::Scratch;

@@ -1,22 +1,31 @@
 // Slots by the keys of their records.
-ghost use Rattle.std.specs.Prelude.{◌≡◌, ◌≤◌, length};
+ghost use Rattle.std.specs.Prelude.{◌≡◌, ◌≤◌, ◌==◌, length, nat_le, position};
 ghost use Rattle.std.specs.List.{insert};
+ghost use Rattle.layout.specs.Pages.{key_of};
 ghost use Rattle.layout.specs.declared.header.Slot.{Slot};
 ghost use Rattle.draft.specs.Drafts.{put_in};
-ghost use Rattle.draft.specs.Found.{Found};
 
 use layout::{Record, Slot};
 
+// The key of the record in a slot.
+fn key_of(page: &[u8], slot: &Slot) -> u32
+    ensures { result ≡ key_of page.now slot.now }
+{
+    Record::read(page, *slot).key
+}
+
 // Where the slot of a key is among some slots.
 pub(super) fn index_of(page: &[u8], slots: &[Slot], key: u32) -> Option<usize>
-    ensures { Found page.now key slots.now result }
+    ensures { result ≡ position (λ s. key_of page.now s == key) slots.now }
 {
-    for (i, slot) in slots.iter().enumerate() {
-        if Record::read(page, *slot).key == key {
-            return Some(i);
-        }
-    }
-    None
+    slots.iter().position(|slot| key_of(page, slot) == key)
+}
+
+// The first slot that holds no lesser key.
+fn first_from(page: &[u8], slots: &[Slot], key: u32) -> Option<usize>
+    ensures { result ≡ position (λ s. nat_le key (key_of page.now s)) slots.now }
+{
+    slots.iter().position(|slot| key_of(page, slot) >= key)
 }
 
 // Where a slot for a key belongs among some slots: behind those of lesser keys.
@@ -24,10 +33,5 @@ pub(super) fn index_for(page: &[u8], slots: &[Slot], key: u32) -> usize
     ensures within { result ≤ length slots.now }
     ensures puts { (new : Slot) → put_in page.now key new slots.now ≡ insert slots.now result new }
 {
-    for (i, slot) in slots.iter().enumerate() {
-        if Record::read(page, *slot).key >= key {
-            return i;
-        }
-    }
-    slots.len()
+    first_from(page, slots, key).unwrap_or(slots.len())
 }

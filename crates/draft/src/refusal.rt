@@ -3,7 +3,7 @@ ghost use Rattle.std.specs.Prelude.{◌≡◌};
 ghost use Rattle.draft.specs.Refusals.{page_refusal_number};
 
 // The key is in the draft; it is not; the draft has 24 slots; there is no place for the record.
-#[derive(Clone, Copy)]
+#[derive(Clone, Copy, PartialEq, Eq, Debug)]
 pub enum PageRefusal {
     KeyInDraft,
     NoSuchKey,

@@ -13,7 +13,7 @@ pub enum Side {
 }
 
 // Where a record lies in its page: its first byte and how many there are, its key included.
-#[derive(Clone, Copy, PartialEq, Eq, Debug)]
+#[derive(Clone, Copy, Default, PartialEq, Eq, Debug)]
 pub struct Slot {
     pub offset: u16,
     pub length: u16,
