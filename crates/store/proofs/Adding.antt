@@ -1,9 +1,13 @@
 -- Adding a page to ascending pages.
-use Rattle.std.proofs.Common.{◌≡◌, ℕ, ◌+◌, ◌<◌, ◌≤◌, Bool, true, false, cond, eqb, ltb, List, [], ◌∷◌, ◌++◌, length, get_or, take, drop, sym, refl, ap, ◌∙◌, arith}
+use Rattle.std.proofs.Common.{◌≡◌, ℕ, zero, suc, ◌+◌, ◌<◌, ◌≤◌, Bool, true, false, Ok, Err, ⊎_elim, subst, add-one, cond, eqb, ltb, List, [], ◌∷◌, ◌++◌, length, get_or, take, drop, sym, refl, ap, ◌∙◌, arith}
 use Rattle.std.proofs.lemmas.List.{drop_more, drop_all, take_more, take-append-drop, append_assoc}
-use Rattle.std.proofs.lemmas.Bool.{true≢false, and_parts, and_from, cond-true, cond-false, eq-eqb, ne_eqb, lt-ltb, le-ltb}
+use Rattle.std.proofs.lemmas.Bool.{cases_lt, ltb-true, and_parts, and_from, cond-true, cond-false, eq-eqb, ne_eqb, lt-ltb, le-ltb}
 use Rattle.std.proofs.lemmas.Bool.Decides.{nat_tests}
-use Rattle.store.specs.Touches.{Belongs, above, ascending, added}
+use Rattle.std.specs.List.{insert}
+use Rattle.std.specs.List.Sorted.{IsBinarySearchResult}
+use Rattle.std.specs.Ordering.{nat_cmp}
+use Rattle.std.proofs.lemmas.List.Sorted.{searched}
+use Rattle.store.specs.Touches.{above, ascending, added}
 
 -- a page that is passed over stays in front
 pub added_passed : (p i : ℕ) (qs : List ℕ) → i < length qs → get_or qs i 0 < p → added p qs ≡ take i qs ++ added p (drop i qs)
@@ -53,11 +57,44 @@ pub ascending_added : (p : ℕ) (qs : List ℕ) → ascending qs ≡ true → as
 ascending_added p [] e = refl
 ascending_added p (q ∷ qs) e = grind (arith, nat_tests, and_parts, and_from, above_added p q qs, ascending_added p qs)
 
--- what an accepted insert leaves
-pub inserted_is : (p at : ℕ) (qs rs : List ℕ) (there ok : Bool) → there ≡ false → Belongs p qs at there → ok ≡ true
-    → rs ≡ cond ok (take at qs ++ p ∷ drop at qs) qs → rs ≡ added p qs
-inserted_is p at qs rs true ok e b o is = absurd (true≢false e)
-inserted_is p at qs rs false ok e b o is = is ∙ cond-true ok (take at qs ++ p ∷ drop at qs) qs o ∙ b.1
+-- each page is above the ones before it
+rises : (q : ℕ) (qs : List ℕ) → above q qs ≡ true → ascending qs ≡ true → (j : ℕ) → j < length qs → q < get_or qs j 0
+rises q [] a e j l = absurd (omega arith)
+rises q (r ∷ rs) a e zero l = ltb-true q r a
+rises q (r ∷ rs) a e (suc j) l =
+    let h = and_parts (above r rs) (ascending rs) e in omega (arith, ltb-true q r a, rises r rs h.0 h.1 j (omega arith))
+
+ascends_at : (qs : List ℕ) → ascending qs ≡ true → (i j : ℕ) → i ≤ j → j < length qs → get_or qs i 0 ≤ get_or qs j 0
+ascends_at [] e i j le l = absurd (omega arith)
+ascends_at (q ∷ qs) e zero zero le l = omega arith
+ascends_at (q ∷ qs) e zero (suc j) le l = let h = and_parts (above q qs) (ascending qs) e in omega (arith, rises q qs h.0 h.1 j (omega arith))
+ascends_at (q ∷ qs) e (suc i) zero le l = absurd (omega arith)
+ascends_at (q ∷ qs) e (suc i) (suc j) le l = ascends_at qs (and_parts (above q qs) (ascending qs) e).1 i j (omega arith) (omega arith)
+
+ascends_below : (qs : List ℕ) → ascending qs ≡ true → (i j : ℕ) → i < j → j < length qs → get_or qs i 0 < get_or qs j 0
+ascends_below [] e i j le l = absurd (omega arith)
+ascends_below (q ∷ qs) e i zero le l = absurd (omega arith)
+ascends_below (q ∷ qs) e zero (suc j) le l = let h = and_parts (above q qs) (ascending qs) e in rises q qs h.0 h.1 j (omega arith)
+ascends_below (q ∷ qs) e (suc i) (suc j) le l = ascends_below qs (and_parts (above q qs) (ascending qs) e).1 i j (omega arith) (omega arith)
+
+-- all pages in front are passed over
+passed : (p i : ℕ) (qs : List ℕ) → i ≤ length qs → ((j : ℕ) → j < i → get_or qs j 0 < p) → added p qs ≡ take i qs ++ added p (drop i qs)
+passed p zero qs l lower = refl
+passed p (suc i) qs l lower =
+    subst (λ k. added p qs ≡ take k qs ++ added p (drop k qs)) (add-one i)
+    (added_passed p i qs (omega arith) (lower i (omega arith)) (passed p i qs (omega arith) (λ j m. lower j (omega arith))))
+
+-- what a search finds: the page is there, or it is put in its place
+pub found_there : (p i : ℕ) (qs : List ℕ) → ascending qs ≡ true → IsBinarySearchResult (λ y. nat_cmp y p) qs (Ok i) → qs ≡ added p qs
+found_there p i qs e s =
+    let h = searched qs p (Ok i) s (ascends_at qs e) in
+    added_there p i qs h.0 h.1 (passed p i qs (omega (arith, h.0)) (λ j m. omega (arith, ascends_below qs e j i m h.0, h.1)))
+
+pub found_place : (p i : ℕ) (qs : List ℕ) → ascending qs ≡ true → IsBinarySearchResult (λ y. nat_cmp y p) qs (Err i) → insert qs i p ≡ added p qs
+found_place p i qs e s =
+    let h = searched qs p (Err i) s (ascends_at qs e) in
+    let front = passed p i qs h.0 h.1 in
+    ⊎_elim (λ (l : i < length qs). added_before p i qs l (h.2 i (omega arith) l) front) (λ (l : length qs ≤ i). added_last p i qs l front) (cases_lt i (length qs))
 
 -- at most one page more
 pub length_added : (p : ℕ) (qs : List ℕ) → length (added p qs) ≤ length qs + 1

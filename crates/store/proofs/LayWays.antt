@@ -78,6 +78,11 @@ module _ {M : Type 0} (meaning : M → Meaning) (pages : ℕ) (a : M) (s : State
   stopped b new e step p f is h =
       subst (λ x. Lays meaning pages a b s Shut work new (Err x)) (sym is) (can, subst (LayStopped meaning pages a b new) is h, refl)
 
+  -- the medium refused among the zeros
+  pub lay_unzeroed : (b : M) (zeros : List ℕ) (e : Refusal) → Zeroes meaning pages a b (Err e) → zeros ≡ zero_page → Lays meaning pages a b s Shut work zeros (Err e)
+  lay_unzeroed b zeros e z zero =
+      ⊎_elim (λ w. stopped b zeros e Write _ w.2.2.0 w.2.2.1 (inl (z, zero))) (λ w. stopped b zeros e Settle 0 w.2.0 w.2.1 (inl (z, zero))) z
+
   -- all was zeroed; the first page answers
   pub lay_named : (x b : M) (zeros new : List ℕ) (o : Unit {0}) (r : Result (Unit {0}) Refusal) → Zeroes meaning pages a x (Ok o) → zeros ≡ zero_page → Names meaning (named zeros pages) x b r → new ≡ named zeros pages
       → Lays meaning pages a b s Shut work new r

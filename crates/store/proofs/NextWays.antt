@@ -1,10 +1,12 @@
 -- Least numbers, and the ways in which a next key is found.
-use Rattle.std.proofs.Common.{◌≡◌, ℕ, ◌+◌, ◌-◌, ◌<◌, ◌≤◌, cond, eqb, ◌⊎◌, List, [], ◌∷◌, length, Some, None, Ok, Err, Option, sym, refl, ap, ◌∙◌, subst, inl, inr, ⊎_elim, arith}
+use Rattle.std.proofs.Common.{◌≡◌, ℕ, ◌+◌, ◌-◌, ◌<◌, ◌≤◌, cond, eqb, ◌⊎◌, List, [], ◌∷◌, length, Some, None, Ok, Err, Option, Result, sym, refl, ap, ◌∙◌, subst, inl, inr, ⊎_elim, arith}
+use Rattle.std.specs.Option.{ok_or}
 use Rattle.std.proofs.lemmas.Bool.{cases_eq, cases_lt, cond-true, cond-false, eq-eqb, ne_eqb}
 use Rattle.medium.specs.Meaning.{Meaning}
 use Rattle.layout.specs.declared.first.FirstPage.{FirstPage}
 use Rattle.layout.specs.Pages.{Entry, records}
 use Rattle.layout.specs.Walks.{keyed}
+use Rattle.store.specs.declared.refusal.Refusal.{Refusal}
 use Rattle.store.specs.declared.refusal.Refusal.TheVariants.{NoSuchKey}
 use Rattle.store.specs.declared.state.State.{State}
 use Rattle.store.specs.Access.{Grants}
@@ -130,3 +132,7 @@ module _ (m : Meaning) (s : State) (least : ℕ) (work new : List ℕ) (first : 
   next_none best h is =
       let none = subst (Least (λ k. SavedKey m first k × (least ≤ k))) is h.1 in
       inr (first, ready, inr (refl, h.0, (λ k saved high. none k (saved, high))))
+
+  pub next_by : (best : Option ℕ) (r : Result ℕ Refusal) → Sweeps m first least work new (Ok best) → r ≡ ok_or best NoSuchKey → Nexts m s least work new r
+  next_by (Some key) r h e = subst (Nexts m s least work new) (sym e) (next_found (Some key) key h refl)
+  next_by None r h e = subst (Nexts m s least work new) (sym e) (next_none None h refl)

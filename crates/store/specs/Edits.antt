@@ -1,5 +1,5 @@
 -- Edits: beginning one, and the changes under its slip.
-use Rattle.std.specs.Prelude.{◌≡◌, ℕ, ◌+◌, ◌^◌, ◌<◌, ◌≤◌, Bool, true, false, ◌⊎◌, List, [], length, Ok, Err, vec_items, Result}
+use Rattle.std.specs.Prelude.{◌≡◌, ℕ, ◌+◌, ◌^◌, ◌<◌, ◌≤◌, Bool, true, false, ◌⊎◌, List, [], length, Ok, Err, Result}
 use Rattle.medium.specs.declared.fault.MediumFault.{MediumFault}
 use Rattle.medium.specs.Meaning.{Meaning, Wrote}
 use Rattle.layout.specs.declared.first.FirstPage.{FirstPage}
@@ -21,7 +21,7 @@ use Rattle.store.specs.Touches.{added}
 
 -- the pages that an edit has touched
 abbrev pub touched_by : Edit → List ℕ
-touched_by e = vec_items e.touched.pages
+touched_by e = e.touched.pages.items
 
 -- the open edit is the one of this number
 abbrev pub Matches : State → ℕ → FirstPage → Type 0

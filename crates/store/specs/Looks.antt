@@ -39,6 +39,11 @@ Looks m s key work new (Err x) =
     ⊎ (Grants m (page_of first.pages key) × (new ≡ m.shown (page_of first.pages key)) × (x ≡ NoSuchKey)
     × (saved_on first key (m.shown (page_of first.pages key)) ≡ None))))
 
+-- looking, and the page of the key beside the place
+abbrev pub Finds : Meaning → State → ℕ → List ℕ → List ℕ → Result (ℕ × Place) Refusal → Type 0
+Finds m s key work new (Ok r) = Looks m s key work new (Ok r.1) × ((first : FirstPage) × (opened s ≡ Some first) × (r.0 ≡ page_of first.pages key))
+Finds m s key work new (Err x) = Looks m s key work new (Err x)
+
 -- the part of some bytes at a place; none if it passes their end
 abbrev pub value_at : List ℕ → Place → List ℕ
 value_at bytes p = cond (nat_le (p.at + p.length) (length bytes)) (part bytes p.at p.length) []

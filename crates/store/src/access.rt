@@ -1,5 +1,4 @@
 // Reading pages and numbers of a medium.
-ghost use Rattle.std.specs.Prelude.{◌≡◌, length};
 ghost use Rattle.store.specs.Access.{Loads, ReadsNumber};
 
 use super::refusal::{Refusal, Step};
@@ -9,8 +8,7 @@ use medium::Medium;
 use octets::{Width, number};
 
 // Reads a whole page into the work page.
-pub(super) fn load<M: Medium>(medium: &M, page: usize, work: &mut [u8]) -> Result<(), Refusal>
-    requires { length work.old ≡ 1024 }
+pub(super) fn load<M: Medium>(medium: &M, page: usize, work: &mut [u8; 1024]) -> Result<(), Refusal>
     ensures { Loads (M.Medium.meaning medium.now) page work.old work.new result }
 {
     at(medium.read(page, 0, work), Step::Read, page)

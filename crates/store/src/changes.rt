@@ -1,34 +1,32 @@
 // The changes of an edit.
-ghost use Rattle.std.specs.Prelude.{◌≡◌, ◌+◌, ◌^◌, ◌<◌, ◌≤◌, false, length, nat_lt};
+ghost use Rattle.std.specs.Prelude.{◌≡◌, ◌≤◌, false, length, nat_lt};
 ghost use Rattle.draft.specs.Images.{ChangedPage, PutPage, RemovedPage};
 ghost use Rattle.store.specs.Edits.{Edits, page_change};
 
 use super::access::load;
 use super::change::Change;
-use super::edits::pass;
 use super::refusal::Refusal;
 use super::slip::Slip;
 use super::store::Store;
-use draft::{PageRefusal, Scratch};
+use draft::{Draft, PageRefusal};
 use medium::Medium;
 
 impl Change {
     // Makes the change on a page in memory. A remove has no value.
     fn apply(
         self,
-        scratch: &mut Scratch,
-        page: &mut [u8],
-        counter: u32,
+        draft: Draft,
+        page: &mut [u8; 1024],
         key: u32,
         value: &[u8],
     ) -> Result<(), PageRefusal>
-        requires { (length page.old ≡ 1024) × ((length value.now ≤ 200) × (counter + 1 < 2 ^ 32)) }
-        ensures { page_change self key value.now counter page.old page.new result }
+        requires { length value.now ≤ 200 }
+        ensures { page_change self key value.now draft.counter page.old page.new result }
     {
         match self {
-            Change::Put => scratch.put(page, counter, key, value),
-            Change::Replace => scratch.change(page, counter, key, value),
-            Change::Remove => scratch.remove(page, counter, key),
+            Change::Put => draft.put(page, key, value),
+            Change::Replace => draft.change(page, key, value),
+            Change::Remove => draft.remove(page, key),
         }
     }
 }
@@ -46,11 +44,17 @@ impl<M: Medium> Store<M> {
         ensures edits { Edits M.Medium.meaning (page_change change key value.now) key slip.now.number (nat_lt 200 (length value.now)) self.old.medium self.new.medium self.old.state self.old.edit self.new.edit work.old work.new result }
         ensures state { self.new.state ≡ self.old.state }
     {
-        let first = self.ready(work, slip, value.len() > 200)?;
-        let page = first.page_of(key);
-        load(&self.medium, page, work)?;
-        pass(change.apply(&mut self.scratch, work, first.counter, key, value))?;
-        self.offer(page, work)
+        let Some(page) = work.as_mut_array::<1024>() else {
+            return Err(Refusal::WorkPage);
+        };
+        let first = self.ready(slip, value.len() > 200)?;
+        let q = first.page_of(key);
+        load(&self.medium, q, page)?;
+        let draft = Draft {
+            counter: first.counter,
+        };
+        change.apply(draft, page, key, value)?;
+        self.offer(q, page)
     }
 
     // Adds a key and its value.

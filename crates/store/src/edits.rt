@@ -1,13 +1,14 @@
 // Beginning an edit, and what its changes share.
-ghost use Rattle.std.specs.Prelude.{◌≡◌, ◌<◌, [], length, MatchOption};
-ghost use Rattle.store.specs.Edits.{Begins, Matches, Noted, Offers, Ready, passed, touched_by};
+ghost use Rattle.std.specs.Prelude.{◌≡◌, ◌<◌, [], MatchOption};
+ghost use Rattle.store.specs.Opens.{Rests};
+ghost use Rattle.store.specs.Edits.{Begins, Matches, Noted, Offers, Ready, touched_by};
 
 use super::refusal::{Refusal, Step};
 use super::refusals::at;
 use super::slip::Slip;
 use super::state::{Edit, State};
 use super::store::Store;
-use draft::PageRefusal;
+use super::touched::Touched;
 use layout::FirstPage;
 use medium::Medium;
 
@@ -23,7 +24,7 @@ impl Edit {
     fn reset(&mut self)
         ensures { (self.new.changes ≡ 0) × (self.new.touched.pages.items ≡ []) }
     {
-        self.touched.clear();
+        self.touched = Touched::new();
         self.changes = 0;
     }
 
@@ -37,19 +38,6 @@ impl Edit {
     }
 }
 
-// A page's refusal as the store's.
-pub(super) fn pass(answer: Result<(), PageRefusal>) -> Result<(), Refusal>
-    ensures { result ≡ passed answer }
-{
-    match answer {
-        Ok(()) => Ok(()),
-        Err(PageRefusal::KeyInDraft) => Err(Refusal::KeyInDraft),
-        Err(PageRefusal::NoSuchKey) => Err(Refusal::NoSuchKey),
-        Err(PageRefusal::DraftFull) => Err(Refusal::DraftFull),
-        Err(PageRefusal::NoPlace) => Err(Refusal::NoPlace),
-    }
-}
-
 impl State {
     // What the first page told, if an edit of this number is open.
     pub(super) fn editing(&self, number: u32) -> Option<FirstPage>
@@ -58,6 +46,16 @@ impl State {
         match self {
             State::Editing { first } if number as u64 == first.counter as u64 + 1 => Some(*first),
             _ => None,
+        }
+    }
+
+    // Refuses while an edit is open.
+    pub(super) fn idle(&self) -> Result<(), Refusal>
+        ensures { Rests self.now result }
+    {
+        match self {
+            State::Editing { .. } => Err(Refusal::EditOpen),
+            _ => Ok(()),
         }
     }
 }
@@ -83,16 +81,11 @@ impl<M: Medium> Store<M> {
         })
     }
 
-    // Whether a change can be taken up.
-    pub(super) fn ready(&self, work: &[u8], slip: &Slip, long: bool) -> Result<FirstPage, Refusal>
-        ensures { Ready self.now.state self.now.edit.changes (length work.now) slip.now.number long result }
+    // Whether a change can be taken up once the work page is one.
+    pub(super) fn ready(&self, slip: &Slip, long: bool) -> Result<FirstPage, Refusal>
+        ensures { Ready self.now.state self.now.edit.changes 1024 slip.now.number long result }
     {
-        if work.len() != 1024 {
-            return Err(Refusal::WorkPage);
-        }
-        let Some(first) = self.state.editing(slip.number) else {
-            return Err(Refusal::NoEdit);
-        };
+        let first = self.state.editing(slip.number).ok_or(Refusal::NoEdit)?;
         if long {
             return Err(Refusal::TooLong);
         }
@@ -103,7 +96,7 @@ impl<M: Medium> Store<M> {
     }
 
     // Writes a whole page and notes the change.
-    pub(super) fn offer(&mut self, page: usize, work: &[u8]) -> Result<(), Refusal>
+    pub(super) fn offer(&mut self, page: usize, work: &[u8; 1024]) -> Result<(), Refusal>
         requires { self.old.edit.changes < 64 }
         ensures offers { Offers M.Medium.meaning self.old.medium self.new.medium self.old.edit self.new.edit page work.now result }
         ensures state { self.new.state ≡ self.old.state }

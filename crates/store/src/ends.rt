@@ -1,6 +1,6 @@
 // The two ends of an edit. Both spend the slip, however they end.
 ghost use Rattle.std.specs.Prelude.{◌≡◌, ℕ, MatchResult};
-ghost use Rattle.store.specs.Ends.{Abandons, Commits, CountsOr, Saves, SettlesOr};
+ghost use Rattle.store.specs.Ends.{Abandons, Commits, CountsOr, Saves, SettlesOr, Spends};
 ghost use Rattle.store.specs.Opening.{Clears, ClearsUntil};
 
 use super::clear::clear_page;
@@ -48,25 +48,34 @@ fn clear_each<M: Medium>(medium: &mut M, pages: &[usize], counter: u32) -> Resul
     Ok(())
 }
 
+impl State {
+    // Spends a slip: if it is that of the open edit, the store is shut.
+    fn spend(&mut self, slip: Slip) -> Result<FirstPage, Refusal>
+        ensures { Spends slip.number self.old self.new result }
+    {
+        let Slip { number } = slip;
+        let first = self.editing(number).ok_or(Refusal::NoEdit)?;
+        *self = State::Shut;
+        Ok(first)
+    }
+}
+
 impl<M: Medium> Store<M> {
     // Saves the edit: its drafts are the saved records from now on. Answers the new counter and how many changes were accepted.
     pub fn save(&mut self, slip: Slip) -> Result<(u32, usize), Refusal>
         ensures saves { Saves M.Medium.meaning slip.number self.old.medium self.new.medium self.old.state self.new.state self.old.edit result }
         ensures edit { self.new.edit ≡ self.old.edit }
     {
-        let Slip { number } = slip;
-        let Some(first) = self.state.editing(number) else {
-            return Err(Refusal::NoEdit);
-        };
-        self.state = State::Shut;
-        commit(&mut self.medium, number)?;
+        let counter = slip.number;
+        let first = self.state.spend(slip)?;
+        commit(&mut self.medium, counter)?;
         self.state = State::Open {
             first: FirstPage {
                 pages: first.pages,
-                counter: number,
+                counter,
             },
         };
-        Ok((number, self.edit.changes))
+        Ok((counter, self.edit.changes))
     }
 
     // Abandons the edit: its drafts are taken back.
@@ -74,11 +83,7 @@ impl<M: Medium> Store<M> {
         ensures abandons { Abandons M.Medium.meaning slip.number self.old.medium self.new.medium self.old.state self.new.state self.old.edit result }
         ensures edit { self.new.edit ≡ self.old.edit }
     {
-        let Slip { number } = slip;
-        let Some(first) = self.state.editing(number) else {
-            return Err(Refusal::NoEdit);
-        };
-        self.state = State::Shut;
+        let first = self.state.spend(slip)?;
         clear_each(&mut self.medium, self.edit.pages(), first.counter)?;
         self.state = State::Open { first };
         Ok(())

@@ -2,7 +2,7 @@
 use super::refusal::Refusal;
 
 // Why a call under a form is refused. The number of each is in front; `number` gives it.
-#[derive(Clone, Copy)]
+#[derive(Clone, Copy, PartialEq, Eq, Debug)]
 pub enum FormRefusal {
     // 1 to 15: the store's refusal, with the key
     Store { key: u32, refusal: Refusal },

@@ -15,24 +15,18 @@ use medium::Medium;
 fn under<T>(answer: Result<T, Refusal>, key: u32) -> Result<T, FormRefusal>
     ensures { result ≡ under_key key answer }
 {
-    match answer {
-        Ok(x) => Ok(x),
-        Err(refusal) => Err(FormRefusal::Store { key, refusal }),
-    }
+    answer.map_err(|refusal| FormRefusal::Store { key, refusal })
 }
 
 // What a form read, its bad byte with the key and the page.
 fn of_form<T>(answer: Result<T, BadByte>, key: u32, page: usize) -> Result<T, FormRefusal>
     ensures { result ≡ of_form key page answer }
 {
-    match answer {
-        Ok(x) => Ok(x),
-        Err(bad) => Err(FormRefusal::NotOfForm {
-            key,
-            page,
-            byte: bad.at,
-        }),
-    }
+    answer.map_err(|bad| FormRefusal::NotOfForm {
+        key,
+        page,
+        byte: bad.at,
+    })
 }
 
 impl<M: Medium> Store<M> {
@@ -72,8 +66,7 @@ impl<M: Medium> Store<M> {
     pub fn look_form<F: RecordForm>(&self, work: &mut [u8], key: u32) -> Result<F, FormRefusal>
         ensures { LooksForm F.RecordForm.reads (M.Medium.meaning self.now.medium) self.now.state key work.old work.new result }
     {
-        let first = under(self.readable(work), key)?;
-        let place = under(self.seek(first, work, key), key)?;
-        of_form(F::read(value_at(work, place)), key, first.page_of(key))
+        let (page, place) = under(self.find(work, key), key)?;
+        of_form(F::read(value_at(work, place)), key, page)
     }
 }

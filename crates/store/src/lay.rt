@@ -1,5 +1,5 @@
 // Writing the pages of an empty file.
-ghost use Rattle.std.specs.Prelude.{◌≡◌, ◌≤◌, length, MatchResult};
+ghost use Rattle.std.specs.Prelude.{◌≡◌, ◌≤◌, MatchResult};
 ghost use Rattle.std.specs.List.{range_with_len};
 ghost use Rattle.store.specs.Lays.{Names, Writes, WritesUntil, Zeroes, named, zero_page};
 
@@ -22,9 +22,8 @@ fn write_each<M: Medium>(medium: &mut M, pages: usize, image: &[u8]) -> Result<(
 pub(super) fn zero_pages<M: Medium>(
     medium: &mut M,
     pages: usize,
-    work: &mut [u8],
+    work: &mut [u8; 1024],
 ) -> Result<(), Refusal>
-    requires { length work.old ≡ 1024 }
     ensures zeroes { Zeroes M.Medium.meaning pages medium.old medium.new result }
     ensures work { work.new ≡ zero_page }
 {
@@ -37,9 +36,9 @@ pub(super) fn zero_pages<M: Medium>(
 pub(super) fn name_file<M: Medium>(
     medium: &mut M,
     pages: usize,
-    work: &mut [u8],
+    work: &mut [u8; 1024],
 ) -> Result<(), Refusal>
-    requires { (length work.old ≡ 1024) × (pages ≤ 4096) }
+    requires { pages ≤ 4096 }
     ensures names { Names M.Medium.meaning (named work.old pages) medium.old medium.new result }
     ensures work { work.new ≡ named work.old pages }
 {

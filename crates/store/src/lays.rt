@@ -16,17 +16,15 @@ impl<M: Medium> Store<M> {
         ensures laid { OnOk result (Laid (M.Medium.meaning self.old.medium) (M.Medium.meaning self.new.medium) pages) }
         ensures edit { self.new.edit ≡ self.old.edit }
     {
-        if work.len() != 1024 {
+        let Some(page) = work.as_mut_array::<1024>() else {
             return Err(Refusal::WorkPage);
-        }
-        if let State::Editing { .. } = self.state {
-            return Err(Refusal::EditOpen);
-        }
+        };
+        self.state.idle()?;
         if pages < 2 || pages > 4096 || pages > self.medium.pages() {
             return Err(Refusal::PageCount);
         }
         self.state = State::Shut;
-        zero_pages(&mut self.medium, pages, work)?;
-        name_file(&mut self.medium, pages, work)
+        zero_pages(&mut self.medium, pages, page)?;
+        name_file(&mut self.medium, pages, page)
     }
 }

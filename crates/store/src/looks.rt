@@ -2,13 +2,13 @@
 ghost use Rattle.std.specs.Prelude.{◌≡◌, length, Ok};
 ghost use Rattle.std.specs.Option.{option_map};
 ghost use Rattle.layout.specs.Pages.{page_of};
-ghost use Rattle.store.specs.Looks.{Looks, Readable, opened, value_at};
+ghost use Rattle.store.specs.Looks.{Finds, Looks, Readable, opened, value_at};
 
 use super::access::load;
 use super::refusal::Refusal;
 use super::state::{Place, State};
 use super::store::Store;
-use layout::{FirstPage, find};
+use layout::FirstPage;
 use medium::Medium;
 
 impl State {
@@ -37,50 +37,50 @@ pub fn value_at(work: &[u8], place: Place) -> &[u8]
 }
 
 impl<M: Medium> Store<M> {
-    // Whether a read can be taken up.
-    pub(super) fn readable(&self, work: &[u8]) -> Result<FirstPage, Refusal>
-        ensures { Readable self.now.state (length work.now) result }
+    // Whether a read can be taken up once the work page is one.
+    pub(super) fn readable(&self) -> Result<FirstPage, Refusal>
+        ensures { Readable self.now.state 1024 result }
     {
-        if work.len() != 1024 {
-            return Err(Refusal::WorkPage);
-        }
-        match self.state.opened() {
-            Some(first) => Ok(first),
-            None => Err(Refusal::NotOpen),
-        }
+        self.state.opened().ok_or(Refusal::NotOpen)
     }
 
-    // Finds a saved record once a read was taken up. Apart from `look`, since `look_form` has to name the page.
-    pub(super) fn seek(&self, first: FirstPage, work: &mut [u8], key: u32) -> Result<Place, Refusal>
-        requires { Readable self.now.state (length work.old) (Ok first) }
-        ensures { Looks (M.Medium.meaning self.now.medium) self.now.state key work.old work.new result }
+    // Finds a saved record once a read was taken up.
+    fn seek(&self, first: FirstPage, page: &mut [u8; 1024], key: u32) -> Result<Place, Refusal>
+        requires { Readable self.now.state 1024 (Ok first) }
+        ensures { Looks (M.Medium.meaning self.now.medium) self.now.state key page.old page.new result }
     {
-        let page = first.page_of(key);
-        load(&self.medium, page, work)?;
-        match find(work, first.counter, key) {
-            Some(record) => Ok(Place {
-                at: record.slot.offset as usize + 4,
-                length: (record.slot.length as usize).saturating_sub(4),
-            }),
-            None => Err(Refusal::NoSuchKey),
-        }
+        load(&self.medium, first.page_of(key), page)?;
+        let record = layout::find(page, first.counter, key).ok_or(Refusal::NoSuchKey)?;
+        Ok(Place {
+            at: record.slot.offset as usize + 4,
+            length: (record.slot.length as usize).saturating_sub(4),
+        })
+    }
+
+    // Finds a saved record, and answers its page and where its value lies in the work page.
+    pub(super) fn find(&self, work: &mut [u8], key: u32) -> Result<(usize, Place), Refusal>
+        ensures { Finds (M.Medium.meaning self.now.medium) self.now.state key work.old work.new result }
+    {
+        let Some(page) = work.as_mut_array::<1024>() else {
+            return Err(Refusal::WorkPage);
+        };
+        let first = self.readable()?;
+        let place = self.seek(first, page, key)?;
+        Ok((first.page_of(key), place))
     }
 
     // Finds a saved record, and answers where its value lies in the work page.
     pub fn look(&self, work: &mut [u8], key: u32) -> Result<Place, Refusal>
         ensures { Looks (M.Medium.meaning self.now.medium) self.now.state key work.old work.new result }
     {
-        let first = self.readable(work)?;
-        self.seek(first, work, key)
+        let (_, place) = self.find(work, key)?;
+        Ok(place)
     }
 
     // The page of a key, if the store is opened.
     pub fn page_of(&self, key: u32) -> Option<usize>
         ensures { result ≡ option_map (λ first. page_of first.pages key) (opened self.now.state) }
     {
-        match self.state.opened() {
-            Some(first) => Some(first.page_of(key)),
-            None => None,
-        }
+        self.state.opened().map(|first| first.page_of(key))
     }
 }

@@ -1,34 +1,25 @@
 // Making a store, and having its medium back.
-ghost use Rattle.std.specs.Prelude.{◌≡◌, MatchResult};
+ghost use Rattle.std.specs.Prelude.{◌≡◌};
 ghost use Rattle.store.specs.declared.state.State.TheVariants.{Shut};
 
 use super::state::{Edit, State};
 use super::store::Store;
 use super::touched::Touched;
-use draft::Scratch;
 use medium::Medium;
-use std::alloc::Global;
 
 impl<M: Medium> Store<M> {
-    // A store over a medium, shut; or the medium back where there is no memory.
-    pub fn new(medium: M, heap: Global) -> Result<Store<M>, M>
-        ensures { MatchResult result (λ s. (s.medium ≡ medium) × (s.state ≡ Shut)) (λ m. m ≡ medium) }
+    // A store over a medium, shut.
+    pub fn new(medium: M) -> Store<M>
+        ensures { (result.medium ≡ medium) × (result.state ≡ Shut) }
     {
-        let Ok(scratch) = Scratch::new(heap) else {
-            return Err(medium);
-        };
-        let Ok(touched) = Touched::new(heap) else {
-            return Err(medium);
-        };
-        Ok(Store {
+        Store {
             medium,
-            scratch,
             edit: Edit {
                 changes: 0,
-                touched,
+                touched: Touched::new(),
             },
             state: State::Shut,
-        })
+        }
     }
 
     // The medium, to be asked and read.
@@ -44,7 +35,6 @@ impl<M: Medium> Store<M> {
     {
         let Store {
             medium,
-            scratch: _,
             edit: _,
             state: _,
         } = self;

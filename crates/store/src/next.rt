@@ -1,5 +1,5 @@
 // Going over the saved keys.
-ghost use Rattle.std.specs.Prelude.{◌≡◌, ◌⊎◌, length, Some};
+ghost use Rattle.std.specs.Prelude.{◌≡◌, ◌⊎◌, Some};
 ghost use Rattle.layout.specs.Pages.{records};
 ghost use Rattle.store.specs.Nexts.{Least, Nexts, Offered, Sweeps};
 
@@ -37,10 +37,9 @@ fn nearest_on(page: &[u8], counter: u32, least: u32, best: Option<u32>) -> Optio
 fn nearest<M: Medium>(
     medium: &M,
     first: FirstPage,
-    work: &mut [u8],
+    work: &mut [u8; 1024],
     least: u32,
 ) -> Result<Option<u32>, Refusal>
-    requires { length work.old ≡ 1024 }
     ensures { Sweeps (M.Medium.meaning medium.now) first least work.old work.new result }
 {
     let mut best = None;
@@ -56,10 +55,10 @@ impl<M: Medium> Store<M> {
     pub fn next(&self, work: &mut [u8], least: u32) -> Result<u32, Refusal>
         ensures { Nexts (M.Medium.meaning self.now.medium) self.now.state least work.old work.new result }
     {
-        let first = self.readable(work)?;
-        match nearest(&self.medium, first, work, least)? {
-            Some(key) => Ok(key),
-            None => Err(Refusal::NoSuchKey),
-        }
+        let Some(page) = work.as_mut_array::<1024>() else {
+            return Err(Refusal::WorkPage);
+        };
+        let first = self.readable()?;
+        nearest(&self.medium, first, page, least)?.ok_or(Refusal::NoSuchKey)
     }
 }

@@ -1,5 +1,5 @@
 // Checking and clearing the pages of a file.
-ghost use Rattle.std.specs.Prelude.{◌≡◌, ◌≤◌, false, length, MatchResult};
+ghost use Rattle.std.specs.Prelude.{◌≡◌, ◌≤◌, false, MatchResult};
 ghost use Rattle.store.specs.Opening.{ChecksPages, Clears, ClearsUntil, later_pages};
 
 use super::access::load;
@@ -12,9 +12,9 @@ use medium::Medium;
 pub(super) fn check_pages<M: Medium>(
     medium: &M,
     first: FirstPage,
-    work: &mut [u8],
+    work: &mut [u8; 1024],
 ) -> Result<(), Refusal>
-    requires { (length work.old ≡ 1024) × ((first.pages ≤ (M.Medium.meaning medium.now).pages) × ((M.Medium.meaning medium.now).stopped ≡ false)) }
+    requires { (first.pages ≤ (M.Medium.meaning medium.now).pages) × ((M.Medium.meaning medium.now).stopped ≡ false) }
     ensures { ChecksPages (M.Medium.meaning medium.now) first work.new result }
 {
     for q in 1..first.pages {

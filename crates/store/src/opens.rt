@@ -19,22 +19,18 @@ impl<M: Medium> Store<M> {
         ensures sound { OpensSound (M.Medium.meaning self.old.medium) result }
         ensures edit { self.new.edit ≡ self.old.edit }
     {
-        if work.len() != 1024 {
+        let Some(page) = work.as_mut_array::<1024>() else {
             return Err(Refusal::WorkPage);
-        }
-        if let State::Editing { .. } = self.state {
-            return Err(Refusal::EditOpen);
-        }
+        };
+        self.state.idle()?;
         self.state = State::Shut;
         let pages = self.medium.pages();
         if pages < 2 {
             return Err(Refusal::PageCount);
         }
-        load(&self.medium, 0, work)?;
-        let Some(first) = FirstPage::read(work, pages) else {
-            return Err(Refusal::NotAShowFile);
-        };
-        check_pages(&self.medium, first, work)?;
+        load(&self.medium, 0, page)?;
+        let first = FirstPage::read(page, pages).ok_or(Refusal::NotAShowFile)?;
+        check_pages(&self.medium, first, page)?;
         let cleared = clear_pages(&mut self.medium, first)?;
         at(self.medium.settle(), Step::Settle, 0)?;
         self.state = State::Open { first };

@@ -2,7 +2,7 @@
 use medium::MediumFault;
 
 // What the store was doing when the medium refused.
-#[derive(Clone, Copy)]
+#[derive(Clone, Copy, PartialEq, Eq, Debug)]
 pub enum Step {
     Read,
     Write,
@@ -10,7 +10,7 @@ pub enum Step {
 }
 
 // Why a call is refused. The number of each is in front; `number` gives it.
-#[derive(Clone, Copy)]
+#[derive(Clone, Copy, PartialEq, Eq, Debug)]
 pub enum Refusal {
     // 1: the work page is not 1,024 bytes
     WorkPage,

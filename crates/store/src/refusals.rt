@@ -1,10 +1,12 @@
 // The numbers of refusals, and a medium's fault with where it came.
 ghost use Rattle.std.specs.Prelude.{◌≡◌};
+ghost use Rattle.store.specs.Edits.{passed_up};
 ghost use Rattle.store.specs.Forms.{form_refusal_number};
 ghost use Rattle.store.specs.Refusals.{refusal_number, during};
 
 use super::formrefusal::FormRefusal;
 use super::refusal::{Refusal, Step};
+use draft::PageRefusal;
 use medium::MediumFault;
 
 impl Refusal {
@@ -44,12 +46,23 @@ impl FormRefusal {
     }
 }
 
+// A page's refusal as the store's.
+impl From<PageRefusal> for Refusal {
+    ghost from_gives = { λ refusal result. result ≡ passed_up refusal };
+
+    fn from(refusal: PageRefusal) -> Refusal {
+        match refusal {
+            PageRefusal::KeyInDraft => Refusal::KeyInDraft,
+            PageRefusal::NoSuchKey => Refusal::NoSuchKey,
+            PageRefusal::DraftFull => Refusal::DraftFull,
+            PageRefusal::NoPlace => Refusal::NoPlace,
+        }
+    }
+}
+
 // What a medium answered, its fault with the step and the page.
 pub(super) fn at<T>(answer: Result<T, MediumFault>, step: Step, page: usize) -> Result<T, Refusal>
     ensures { result ≡ during step page answer }
 {
-    match answer {
-        Ok(x) => Ok(x),
-        Err(fault) => Err(Refusal::Medium { step, page, fault }),
-    }
+    answer.map_err(|fault| Refusal::Medium { step, page, fault })
 }

@@ -1,5 +1,6 @@
 // Where a store stands.
-ghost use Rattle.std.specs.Prelude.{◌≤◌, vec_len};
+ghost use Rattle.std.specs.Prelude.{◌≤◌};
+ghost use Rattle.arrayvec.specs.ArrayVec.{array_vec_len};
 
 use super::touched::Touched;
 use layout::FirstPage;
@@ -18,11 +19,11 @@ pub struct Edit {
     pub(super) changes: usize,
     pub(super) touched: Touched,
     ghost most: { changes ≤ 64 },
-    ghost within: { vec_len touched.pages ≤ changes },
+    ghost within: { array_vec_len touched.pages ≤ changes },
 }
 
 // What an opening answers: the counter, how many pages the file has, and how many numbers were cleared.
-#[derive(Clone, Copy)]
+#[derive(Clone, Copy, PartialEq, Eq, Debug)]
 pub struct Opened {
     pub counter: u32,
     pub pages: usize,
@@ -30,7 +31,7 @@ pub struct Opened {
 }
 
 // Where a value lies in the work page.
-#[derive(Clone, Copy)]
+#[derive(Clone, Copy, PartialEq, Eq, Debug)]
 pub struct Place {
     pub at: usize,
     pub length: usize,

@@ -4,9 +4,9 @@ use Rattle.store.proofs.store.Store.save.Goals as goal
 
 pub returns-in_err-commit : goal.returns-in_err-commit
 returns-in_err-commit g c =
-    let p = err_from_is_err_and c.from_residual.result c.from_residual.ensures.1 in
-    rw (p.1, p.2) (record { saves = inr ((c.in-Some.first, c.in-Some.ensures), c.in_err-commit.ensures, refl); edit = refl })
+    let p = err_from_is_err_and c.from_residual-in_err-commit.result c.from_residual-in_err-commit.ensures.1 in
+    rw (p.1, p.2) (record { saves = inr ((c.in_ok-first.first, c.in_ok-first.ensures.0), c.in_err-commit.ensures, c.in_ok-first.ensures.1); edit = refl })
 
 pub returns : goal.returns
 returns g c =
-    record { saves = ((c.in-Some.first, c.in-Some.ensures, (_, refl, refl, refl)), c.in_ok-commit.ensures, refl, refl); edit = refl }
+    record { saves = ((c.in_ok-first.first, c.in_ok-first.ensures.0, (_, refl, refl, refl)), c.in_ok-commit.ensures, refl, refl); edit = refl }

@@ -1,16 +1,26 @@
-use Rattle.std.proofs.Common.{◌≡◌, vec_items, ap, ◌∙◌, arith, rules}
+use Rattle.std.proofs.Common.{◌≡◌, Ok, Err, ap, ◌∙◌, subst}
+use Rattle.std.specs.List.{insert}
+use Rattle.std.specs.List.Sorted.{IsBinarySearchResult}
+use Rattle.std.specs.Ordering.{nat_cmp}
 use Rattle.store.specs.Touches.{added, ascending}
-use Rattle.store.proofs.Adding.{ascending_added, inserted_is}
+use Rattle.store.proofs.Adding.{ascending_added, found_place, found_there}
 use Rattle.store.proofs.touched.Touched.add.Goals as goal
 
 pub invariant_of-self : goal.invariant_of-self
 invariant_of-self c =
-    let old = c.args.self.now in
-    let ok = c.insert.ensures.succeeds (omega arith) in
-    let is : vec_items c.insert.new.self ≡ added c.args.page (vec_items old.pages) =
-    inserted_is c.args.page c.place-at.result.0 (vec_items old.pages) (vec_items c.insert.new.self) c.place-at.result.1 _ c.if-there.false c.place-at.ensures ok c.insert.ensures.items in
-    record {
-      room = omega (arith, c.insert.ensures.capacity);
-      few = search rules;
-      ascends = ap ascending is ∙ ascending_added c.args.page (vec_items old.pages) old.ascends;
-    }
+    let qs = c.args.self.now.pages.items in
+    let is : insert qs c.in-Err.at c.args.page ≡ added c.args.page qs =
+    found_place c.args.page c.in-Err.at qs c.args.self.now.ascends
+    (subst (λ xs. IsBinarySearchResult (λ y. nat_cmp y c.args.page) xs (Err c.in-Err.at)) c.deref.ensures.0 c.in-Err.ensures.position) in
+    record { ascends = ap ascending (c.insert.ensures.items ∙ is) ∙ ascending_added c.args.page qs c.args.self.now.ascends }
+
+pub returns-in-Err : goal.returns-in-Err
+returns-in-Err c =
+    c.insert.ensures.items
+    ∙ found_place c.args.page c.in-Err.at c.args.self.now.pages.items c.args.self.now.ascends
+    (subst (λ xs. IsBinarySearchResult (λ y. nat_cmp y c.args.page) xs (Err c.in-Err.at)) c.deref.ensures.0 c.in-Err.ensures.position)
+
+pub returns-in_default : goal.returns-in_default
+returns-in_default c =
+    found_there c.args.page c.in_default.field-0 c.args.self.now.pages.items c.args.self.now.ascends
+    (subst (λ xs. IsBinarySearchResult (λ y. nat_cmp y c.args.page) xs (Ok c.in_default.field-0)) c.deref.ensures.0 c.in_default.ensures.position)
