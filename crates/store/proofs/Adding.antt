@@ -3,11 +3,10 @@ use Rattle.std.proofs.Common.{◌≡◌, ℕ, zero, suc, ◌+◌, ◌<◌, ◌�
 use Rattle.std.proofs.lemmas.List.{drop_more, drop_all, take_more, take-append-drop, append_assoc}
 use Rattle.std.proofs.lemmas.Bool.{cases_lt, ltb-true, and_parts, and_from, cond-true, cond-false, eq-eqb, ne_eqb, lt-ltb, le-ltb}
 use Rattle.std.proofs.lemmas.Bool.Decides.{nat_tests}
-use Rattle.std.specs.List.{insert}
 use Rattle.std.specs.List.Sorted.{IsBinarySearchResult}
 use Rattle.std.specs.Ordering.{nat_cmp}
 use Rattle.std.proofs.lemmas.List.Sorted.{searched}
-use Rattle.store.specs.Touches.{above, ascending, added}
+use Rattle.store.specs.Touches.{Belongs, above, ascending, added}
 
 -- a page that is passed over stays in front
 pub added_passed : (p i : ℕ) (qs : List ℕ) → i < length qs → get_or qs i 0 < p → added p qs ≡ take i qs ++ added p (drop i qs)
@@ -85,16 +84,16 @@ passed p (suc i) qs l lower =
     (added_passed p i qs (omega arith) (lower i (omega arith)) (passed p i qs (omega arith) (λ j m. lower j (omega arith))))
 
 -- what a search finds: the page is there, or it is put in its place
-pub found_there : (p i : ℕ) (qs : List ℕ) → ascending qs ≡ true → IsBinarySearchResult (λ y. nat_cmp y p) qs (Ok i) → qs ≡ added p qs
+pub found_there : (p i : ℕ) (qs : List ℕ) → ascending qs ≡ true → IsBinarySearchResult (λ y. nat_cmp y p) qs (Ok i) → Belongs p qs i true
 found_there p i qs e s =
     let h = searched qs p (Ok i) s (ascends_at qs e) in
     added_there p i qs h.0 h.1 (passed p i qs (omega (arith, h.0)) (λ j m. omega (arith, ascends_below qs e j i m h.0, h.1)))
 
-pub found_place : (p i : ℕ) (qs : List ℕ) → ascending qs ≡ true → IsBinarySearchResult (λ y. nat_cmp y p) qs (Err i) → insert qs i p ≡ added p qs
+pub found_place : (p i : ℕ) (qs : List ℕ) → ascending qs ≡ true → IsBinarySearchResult (λ y. nat_cmp y p) qs (Err i) → Belongs p qs i false
 found_place p i qs e s =
     let h = searched qs p (Err i) s (ascends_at qs e) in
     let front = passed p i qs h.0 h.1 in
-    ⊎_elim (λ (l : i < length qs). added_before p i qs l (h.2 i (omega arith) l) front) (λ (l : length qs ≤ i). added_last p i qs l front) (cases_lt i (length qs))
+    (h.0, ⊎_elim (λ (l : i < length qs). added_before p i qs l (h.2 i (omega arith) l) front) (λ (l : length qs ≤ i). added_last p i qs l front) (cases_lt i (length qs)))
 
 -- at most one page more
 pub length_added : (p : ℕ) (qs : List ℕ) → length (added p qs) ≤ length qs + 1

@@ -33,7 +33,7 @@ impl Change {
 
 impl<M: Medium> Store<M> {
     // Makes a change under a slip: reads the key's page, changes it in the work page, and writes it.
-    fn edit(
+    pub(super) fn edit(
         &mut self,
         work: &mut [u8],
         slip: &Slip,

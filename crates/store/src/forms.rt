@@ -1,8 +1,10 @@
 // Calls under a record form: a record's value in place of its bytes.
 ghost use Rattle.std.specs.Prelude.{◌≡◌};
 ghost use Rattle.draft.specs.Images.{ChangedPage, PutPage};
+ghost use Rattle.store.specs.Edits.{page_change};
 ghost use Rattle.store.specs.Forms.{EditsForm, LooksForm, of_form, under_key};
 
+use super::change::Change;
 use super::formrefusal::FormRefusal;
 use super::looks::value_at;
 use super::refusal::Refusal;
@@ -30,7 +32,24 @@ fn of_form<T>(answer: Result<T, BadByte>, key: u32, page: usize) -> Result<T, Fo
 }
 
 impl<M: Medium> Store<M> {
-    // Adds a key and its value. No form writes above 200 bytes, so the room suffices.
+    // Makes a change with a value in place of its bytes. No form writes above 200 bytes, so the room suffices.
+    fn edit_form<F: RecordForm>(
+        &mut self,
+        work: &mut [u8],
+        slip: &Slip,
+        change: Change,
+        key: u32,
+        value: &F,
+    ) -> Result<(), FormRefusal>
+        ensures edits { EditsForm M.Medium.meaning (λ bytes. page_change change key bytes) (F.RecordForm.bytes value.now) key slip.now.number self.old.medium self.new.medium self.old.state self.old.edit self.new.edit work.old work.new result }
+        ensures state { self.new.state ≡ self.old.state }
+    {
+        let mut bytes = [0; 200];
+        let n = value.write(&mut bytes);
+        under(self.edit(work, slip, change, key, &bytes[..n]), key)
+    }
+
+    // Adds a key and its value.
     pub fn put_form<F: RecordForm>(
         &mut self,
         work: &mut [u8],
@@ -41,12 +60,10 @@ impl<M: Medium> Store<M> {
         ensures edits { EditsForm M.Medium.meaning (λ bytes counter page new x. PutPage counter page new key bytes x) (F.RecordForm.bytes value.now) key slip.now.number self.old.medium self.new.medium self.old.state self.old.edit self.new.edit work.old work.new result }
         ensures state { self.new.state ≡ self.old.state }
     {
-        let mut bytes = [0; 200];
-        let n = value.write(&mut bytes);
-        under(self.put(work, slip, key, &bytes[..n]), key)
+        self.edit_form(work, slip, Change::Put, key, value)
     }
 
-    // Replaces a key's value, as `put_form` adds it.
+    // Replaces a key's value.
     pub fn change_form<F: RecordForm>(
         &mut self,
         work: &mut [u8],
@@ -57,9 +74,7 @@ impl<M: Medium> Store<M> {
         ensures edits { EditsForm M.Medium.meaning (λ bytes counter page new x. ChangedPage counter page new key bytes x) (F.RecordForm.bytes value.now) key slip.now.number self.old.medium self.new.medium self.old.state self.old.edit self.new.edit work.old work.new result }
         ensures state { self.new.state ≡ self.old.state }
     {
-        let mut bytes = [0; 200];
-        let n = value.write(&mut bytes);
-        under(self.change(work, slip, key, &bytes[..n]), key)
+        self.edit_form(work, slip, Change::Replace, key, value)
     }
 
     // Finds a saved record, and answers its value.
