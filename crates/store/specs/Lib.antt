@@ -5,6 +5,7 @@ pub mod Ends
 pub mod Forms
 pub mod Laws
 pub mod Lays
+pub mod Lines
 pub mod Looks
 pub mod Nexts
 pub mod Opening

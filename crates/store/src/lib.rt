@@ -19,6 +19,7 @@ mod opens;
 mod pages;
 mod refusal;
 mod refusals;
+mod shown;
 mod slip;
 mod state;
 mod store;

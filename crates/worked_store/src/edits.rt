@@ -1,30 +1,15 @@
-// What the tests share: stores on small media, and changes by their refusal's number.
+// What the tests share: stores on small media, and changes with what they answer.
 use medium::{Medium, Memory};
-use std::alloc::Global;
 use store::{Change, Refusal, Slip, Store, value_at};
 
-// A refusal's number, or 0 where there is none.
-pub(super) fn number_of(answer: Result<(), Refusal>) -> u8 {
-    match answer {
-        Ok(()) => 0,
-        Err(refusal) => refusal.number(),
-    }
+// The number of a refusal, where there is one.
+pub(super) fn number_of<T: Drop>(answer: Result<T, Refusal>) -> Option<u8> {
+    answer.err().map(|refusal| refusal.number())
 }
 
 // A store on lent bytes, shut.
-pub(super) fn shut<'a>(bytes: &'a mut [u8], heap: Global) -> Option<Store<Memory<'a>>> {
-    match Store::new(Memory::new(bytes), heap) {
-        Ok(store) => Some(store),
-        Err(memory) => {
-            let _ = memory.into_bytes();
-            None
-        }
-    }
-}
-
-// The bytes are free again.
-pub(super) fn put_away(store: Store<Memory<'_>>) {
-    let _ = store.into_medium().into_bytes();
+pub(super) fn shut(bytes: &mut [u8]) -> Store<Memory<'_>> {
+    Store::new(Memory::new(bytes))
 }
 
 // Makes an empty file of two pages and opens it.
@@ -40,12 +25,12 @@ pub(super) fn make<M: Medium>(
     change: Change,
     key: u32,
     value: &[u8],
-) -> u8 {
+) -> Result<(), Refusal> {
     let mut work = [0; 1024];
     match change {
-        Change::Put => number_of(store.put(&mut work, slip, key, value)),
-        Change::Replace => number_of(store.change(&mut work, slip, key, value)),
-        Change::Remove => number_of(store.remove(&mut work, slip, key)),
+        Change::Put => store.put(&mut work, slip, key, value),
+        Change::Replace => store.change(&mut work, slip, key, value),
+        Change::Remove => store.remove(&mut work, slip, key),
     }
 }
 
@@ -55,17 +40,11 @@ pub(super) fn make_and_save<M: Medium>(
     change: Change,
     key: u32,
     value: &[u8],
-) -> u8 {
-    match store.begin() {
-        Ok(slip) => {
-            let made = make(store, &slip, change, key, value);
-            match store.save(slip) {
-                Ok(_) => made,
-                Err(refusal) => refusal.number(),
-            }
-        }
-        Err(refusal) => refusal.number(),
-    }
+) -> Result<(), Refusal> {
+    let slip = store.begin()?;
+    let made = make(store, &slip, change, key, value);
+    store.save(slip)?;
+    made
 }
 
 // Whether a saved value lies at a place of its page.

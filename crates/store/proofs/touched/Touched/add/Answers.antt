@@ -22,7 +22,7 @@ pub returns-in-Err : goal.returns-in-Err
 returns-in-Err c =
     c.insert.ensures.items
     ∙ (found_place c.args.page c.in-Err.at c.args.self.now.pages.items c.args.self.now.ascends
-      (subst (λ xs. IsBinarySearchResult (λ y. nat_cmp y c.args.page) xs (Err c.in-Err.at)) c.deref.ensures.0 c.in-Err.ensures.position)).1
+    (subst (λ xs. IsBinarySearchResult (λ y. nat_cmp y c.args.page) xs (Err c.in-Err.at)) c.deref.ensures.0 c.in-Err.ensures.position)).1
 
 pub returns-in_default : goal.returns-in_default
 returns-in_default c =
