@@ -1,5 +1,5 @@
 -- The ways in which a change ends.
-use Rattle.std.proofs.Common.{◌≡◌, ℕ, Bool, List, length, Ok, Err, Result, refl, subst, inl, inr}
+use Rattle.std.proofs.Common.{◌≡◌, ℕ, Bool, List, length, Ok, Err, Result, sym, refl, subst, inl, inr}
 use Rattle.medium.specs.Meaning.{Meaning}
 use Rattle.layout.specs.declared.first.FirstPage.{FirstPage}
 use Rattle.layout.specs.Pages.{page_of}
@@ -9,6 +9,10 @@ use Rattle.store.specs.declared.state.Edit.{Edit}
 use Rattle.store.specs.declared.state.State.{State}
 use Rattle.store.specs.Access.{Loads}
 use Rattle.store.specs.Edits.{Applies, Edits, Offers, PageChange, Ready, passed_up}
+
+-- what was found of a work page of 1,024 bytes, of one that has as many
+pub ready_at : (s : State) (changes size number : ℕ) (long : Bool) (r : Result FirstPage Refusal) → size ≡ 1024 → Ready s changes 1024 number long r → Ready s changes size number long r
+ready_at s changes size number long r e = subst (λ n. Ready s changes n number long r) (sym e)
 
 module _ {M : Type 0} (meaning : M → Meaning) (change : PageChange) (key number : ℕ) (long : Bool) (a : M) (s : State) (e : Edit) (work : List ℕ) (first : FirstPage)
     (ready : Ready s e.changes (length work) number long (Ok first)) (q : ℕ) (is : q ≡ page_of first.pages key) where

@@ -1,5 +1,5 @@
 -- The ways in which a look ends.
-use Rattle.std.proofs.Common.{◌≡◌, ℕ, ◌+◌, ◌-◌, List, length, Some, None, Ok, Err, Option, sym, refl, ap, ◌∙◌, subst, inl, inr}
+use Rattle.std.proofs.Common.{◌≡◌, ℕ, ◌+◌, ◌-◌, List, length, Some, None, Ok, Err, Option, Result, sym, refl, ap, ◌∙◌, subst, inl, inr}
 use Rattle.std.specs.Option.{option_map}
 use Rattle.medium.specs.Meaning.{Meaning}
 use Rattle.layout.specs.declared.first.FirstPage.{FirstPage}
@@ -12,6 +12,10 @@ use Rattle.store.specs.declared.state.Place.{Place}
 use Rattle.store.specs.declared.state.State.{State}
 use Rattle.store.specs.Access.{Loads}
 use Rattle.store.specs.Looks.{Looks, Readable, saved_on}
+
+-- what was found of a work page of 1,024 bytes, of one that has as many
+pub readable_at : (s : State) (size : ℕ) (r : Result FirstPage Refusal) → size ≡ 1024 → Readable s 1024 r → Readable s size r
+readable_at s size r e = subst (λ n. Readable s n r) (sym e)
 
 module _ (m : Meaning) (s : State) (key : ℕ) (work new : List ℕ) (first : FirstPage) (ready : Readable s (length work) (Ok first)) (q : ℕ) (is : q ≡ page_of first.pages key) where
   pub look_unread : (x : Refusal) → Loads m q work new (Err x) → Looks m s key work new (Err x)

@@ -1,13 +1,14 @@
-use Rattle.std.proofs.Common.{Ok, Err, sym, subst, inl}
+use Rattle.std.proofs.Common.{length, Ok, Err, subst, inl}
 use Rattle.std.proofs.lemmas.Result.{err_from_is_err_and}
-use Rattle.store.specs.Looks.{Looks, Readable}
+use Rattle.store.specs.Looks.{Looks}
+use Rattle.store.proofs.LookWays.{readable_at}
 use Rattle.store.proofs.store.Store.find.Goals as goal
 
 pub returns-in_err-first : goal.returns-in_err-first
 returns-in_err-first g c =
     let p = err_from_is_err_and c.from_residual.result c.from_residual.ensures.1 in
     let whole = c.in-Some.ensures.cases in
-    rw (p.1, p.2) (inl (subst (λ n. Readable c.args.self.now.state n (Err c.in_err-first.field-0.0)) (sym whole.long) c.in_err-first.ensures, whole.same))
+    rw (p.1, p.2) (inl (readable_at c.args.self.now.state (length c.args.work.now) (Err c.in_err-first.field-0.0) whole.long c.in_err-first.ensures, whole.same))
 
 pub returns-in_err-place : goal.returns-in_err-place
 returns-in_err-place g c =
