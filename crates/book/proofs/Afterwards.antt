@@ -156,8 +156,8 @@ reads_value reads key a b bytes value (Ok p) r there (p', is, at) (inr (bad, e, 
     let read : Err bad ≡ Ok value = sym e ∙ ap (λ p. reads (value_at b.work p)) place ∙ ap reads at ∙ there in
     let z : ◌≡◌ {A = ℕ} 0 1 = cc in absurd (omega arith)
 
-module _ {M F : Type 0} (meaning : M → Meaning) (sized : (x : M) → Sized (meaning x)) (kind : F → ℕ) (bytes : F → List ℕ)
-    (reads : ℕ → List ℕ → Result F BadByte) (there : (v : F) → reads (kind v) (bytes v) ≡ Ok v) where
+module _ {M F K : Type 0} (meaning : M → Meaning) (sized : (x : M) → Sized (meaning x)) (kind : F → K) (bytes : F → List ℕ)
+    (reads : K → List ℕ → Result F BadByte) (there : (v : F) → reads (kind v) (bytes v) ≡ Ok v) where
   -- a file that says some values, once it is opened, is read under its forms
   after_reads : (n o : M) (t : State) (v : Values) → Found (meaning n) v → Reopens meaning n o t
       → (a b : Moment M) (key : ℕ) (value : F) (r : Answer F) → a.store.medium ≡ o → a.store.state ≡ t → (meaning o).stopped ≡ false
@@ -173,7 +173,7 @@ module _ {M F : Type 0} (meaning : M → Meaning) (sized : (x : M) → Sized (me
       (look_says (meaning o) first now.0 v key a.work b.work (bytes value) now.1 (now.2 runs).0 runs long said y look) told
 
 -- what a cut leaves is read under its forms
-pub reads_forms : {M F : Type 0} (meaning : M → Meaning) → ((x : M) → Sized (meaning x)) → (kind : F → ℕ) (bytes : F → List ℕ) (reads : ℕ → List ℕ → Result F BadByte)
+pub reads_forms : {M F K : Type 0} (meaning : M → Meaning) → ((x : M) → Sized (meaning x)) → (kind : F → K) (bytes : F → List ℕ) (reads : K → List ℕ → Result F BadByte)
     → ((v : F) → reads (kind v) (bytes v) ≡ Ok v) → (a : Moment M) (k : Book) → Kept meaning a k
     → ReadsForms meaning kind bytes reads a.store.medium k
 reads_forms meaning sized kind bytes reads there a k kept n o t cut again =

@@ -43,11 +43,11 @@ told_save : {F T : Type 0} (done : T → Done F) (k : Book) (x : Result T Refusa
 told_save done k (Ok _) = refl
 told_save done k (Err e) = refl
 
-module _ {M F : Type 0} (meaning : M → Meaning) (sized : (x : M) → Sized (meaning x)) (bytes : F → List ℕ) (reads : ℕ → List ℕ → Result F BadByte) where
+module _ {M F K : Type 0} (meaning : M → Meaning) (sized : (x : M) → Sized (meaning x)) (bytes : F → List ℕ) (reads : K → List ℕ → Result F BadByte) where
   -- the answer of a begin says what the begin did to the book
-  gives_begun : (a b : Moment M) (x : Result Slip Refusal) (r : Answer F) (k : Book) → Gives a b x r → begun k x ≡ fed bytes k Begin r
-  gives_begun a b (Ok slip) r k (is, _) = ap (fed bytes k Begin) (sym is)
-  gives_begun a b (Err e) r k (is, _) = ap (fed bytes k Begin) (sym is)
+  gives_begun : (a b : Moment M) (x : Result Slip Refusal) (r : Answer F) (k : Book) → Gives a b x r → begun k x ≡ fed {K = K} bytes k Begin r
+  gives_begun a b (Ok slip) r k (is, _) = ap (fed {K = K} bytes k Begin) (sym is)
+  gives_begun a b (Err e) r k (is, _) = ap (fed {K = K} bytes k Begin) (sym is)
 
   -- without a slip no call is made
   slipless_keeps : (i : ℕ) (a b : Moment M) (r : Answer F) (book : Answer F → Book) → Slipless i a b r → Kept meaning a (book (Err NoSlip)) → Kept meaning b (book r)
@@ -72,12 +72,12 @@ module _ {M F : Type 0} (meaning : M → Meaning) (sized : (x : M) → Sized (me
   reads_keeps a b k (same, _) kept = subst (λ s. Keeps (meaning s.medium) s.state (touched_by s.edit) k) (sym same) kept
 
   -- every call keeps the store to the book that is fed it
-  pub makes_keeps : (c : Call F) (r : Answer F) (a b : Moment M) (k : Book) → Makes meaning bytes reads c r a b → Kept meaning a k → Kept meaning b (fed bytes k c r)
+  pub makes_keeps : (c : Call F K) (r : Answer F) (a b : Moment M) (k : Book) → Makes meaning bytes reads c r a b → Kept meaning a k → Kept meaning b (fed bytes k c r)
   makes_keeps Open r a b k (x, _, opens, same, _) kept =
       subst (λ e. Keeps (meaning b.store.medium) b.store.state (touched_by e) k) (sym same)
       (open_keeps meaning sized a.store.medium b.store.medium a.store.state b.store.state (touched_by a.store.edit) a.work b.work x k kept opens)
   makes_keeps Begin r a b k (x, gives, begins, same, _) kept =
-      subst (λ m. Keeps (meaning m) b.store.state (touched_by b.store.edit) (fed bytes k Begin r)) (sym same)
+      subst (λ m. Keeps (meaning m) b.store.state (touched_by b.store.edit) (fed {K = K} bytes k Begin r)) (sym same)
       (subst (Keeps (meaning a.store.medium) b.store.state (touched_by b.store.edit)) (gives_begun a b x r k gives)
       (begin_keeps meaning sized a.store.medium a.store.state b.store.state a.store.edit b.store.edit x k kept begins))
   makes_keeps (Put i key value) r a b k makes kept = edited_keeps (told (λ _. Changed)) (told_edit F) i Putting key (vec_items value) r a b k makes kept
@@ -99,7 +99,7 @@ module _ {M F : Type 0} (meaning : M → Meaning) (sized : (x : M) → Sized (me
   makes_keeps (LookForm key kind) r a b k (_, _, _, only) kept = reads_keeps a b k only kept
 
   -- and so every run of calls
-  pub ran_keeps : (cs : List (Call F)) (rs : List (Answer F)) (a b : Moment M) (k : Book) → Ran meaning bytes reads cs rs a b → Kept meaning a k
+  pub ran_keeps : (cs : List (Call F K)) (rs : List (Answer F)) (a b : Moment M) (k : Book) → Ran meaning bytes reads cs rs a b → Kept meaning a k
       → Kept meaning b (fed_all bytes k cs rs)
   ran_keeps [] [] a b k same kept = subst (λ b. Kept meaning b k) (sym same) kept
   ran_keeps [] (r ∷ rs) a b k ran kept = absurd ran
@@ -107,7 +107,7 @@ module _ {M F : Type 0} (meaning : M → Meaning) (sized : (x : M) → Sized (me
   ran_keeps (c ∷ cs) (r ∷ rs) a b k (x, makes, ran) kept = ran_keeps cs rs x b (fed bytes k c r) ran (makes_keeps c r a x k makes kept)
 
   -- whatever a cut leaves after a run is what the book says
-  pub ran_survives : (cs : List (Call F)) (rs : List (Answer F)) (a b : Moment M) (k : Book) → Ran meaning bytes reads cs rs a b → Kept meaning a k
+  pub ran_survives : (cs : List (Call F K)) (rs : List (Answer F)) (a b : Moment M) (k : Book) → Ran meaning bytes reads cs rs a b → Kept meaning a k
       → Survives meaning b (fed_all bytes k cs rs)
   ran_survives cs rs a b k ran kept =
       survives meaning sized b.store.medium b.store.state (touched_by b.store.edit) (fed_all bytes k cs rs) (ran_keeps cs rs a b k ran kept)

@@ -5,9 +5,9 @@ use Rattle.form.specs.declared.form.BadByte.{BadByte}
 use Rattle.book.specs.declared.call.Call.{Call}
 use Rattle.book.specs.Uses.{Answer, Makes, Moment, Ran}
 
-module _ {M F : Type 0} (meaning : M → Meaning) (bytes : F → List ℕ) (reads : ℕ → List ℕ → Result F BadByte) where
+module _ {M F K : Type 0} (meaning : M → Meaning) (bytes : F → List ℕ) (reads : K → List ℕ → Result F BadByte) where
   -- the next call of a list is made
-  longer : (cs : List (Call F)) (i : ℕ) (c : Call F) (rs : List (Answer F)) (r : Answer F) (a b d : Moment M) → i < length cs → c ≡ get_or cs i c
+  longer : (cs : List (Call F K)) (i : ℕ) (c : Call F K) (rs : List (Answer F)) (r : Answer F) (a b d : Moment M) → i < length cs → c ≡ get_or cs i c
       → Ran meaning bytes reads (take i cs) rs a b → Makes meaning bytes reads c r b d → Ran meaning bytes reads (take (suc i) cs) (rs ++ r ∷ []) a d
   longer [] i c rs r a b d l is ran makes = absurd (omega (arith, l))
   longer (x ∷ xs) zero c [] r a b d l is ran makes =
@@ -17,7 +17,7 @@ module _ {M F : Type 0} (meaning : M → Meaning) (bytes : F → List ℕ) (read
   longer (x ∷ xs) (suc i) c (s ∷ rs) r a b d l is (y, first, rest) makes =
       (y, first, longer xs i c rs r y b d (omega (arith, l)) is rest makes)
 
-  pub ran_more : (cs : List (Call F)) (i : ℕ) (c : Call F) (rs ss : List (Answer F)) (r : Answer F) (a b d : Moment M) → i < length cs → c ≡ get_or cs i c
+  pub ran_more : (cs : List (Call F K)) (i : ℕ) (c : Call F K) (rs ss : List (Answer F)) (r : Answer F) (a b d : Moment M) → i < length cs → c ≡ get_or cs i c
       → Ran meaning bytes reads (take i cs) rs a b → Makes meaning bytes reads c r b d → ss ≡ rs ++ r ∷ [] → Ran meaning bytes reads (take (i + 1) cs) ss a d
   ran_more cs i c rs ss r a b d l is ran makes e =
       let next : suc i ≡ i + 1 = omega arith in

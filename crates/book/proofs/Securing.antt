@@ -13,8 +13,8 @@ use Rattle.book.proofs.Cutting.{starts}
 use Rattle.book.proofs.Making.{ran_keeps, ran_survives}
 use Rattle.book.proofs.Stopping.{ran_stopped}
 
-pub ran_secure : {M F : Type 0} (meaning : M → Meaning) → ((x : M) → Sized (meaning x)) → (kind : F → ℕ) (bytes : F → List ℕ) (reads : ℕ → List ℕ → Result F BadByte)
-    → ((v : F) → reads (kind v) (bytes v) ≡ Ok v) → (cs : List (Call F)) (rs : List (Answer F)) (a b : Moment M) → Ran meaning bytes reads cs rs a b
+pub ran_secure : {M F K : Type 0} (meaning : M → Meaning) → ((x : M) → Sized (meaning x)) → (kind : F → K) (bytes : F → List ℕ) (reads : K → List ℕ → Result F BadByte)
+    → ((v : F) → reads (kind v) (bytes v) ≡ Ok v) → (cs : List (Call F K)) (rs : List (Answer F)) (a b : Moment M) → Ran meaning bytes reads cs rs a b
     → Secure meaning kind bytes reads cs rs a b
 ran_secure meaning sized kind bytes reads there cs rs a b ran = record {
   begins = λ v begins.

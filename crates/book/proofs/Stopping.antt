@@ -272,7 +272,7 @@ reads_stopped reads at a b (Ok p) r (inr (_, _, (_, _, tells))) sure step page f
 reads_stopped reads at a b (Err e) r tells sure step page fault (inl is) = let z : ◌≡◌ {A = ℕ} 0 1 = cc in absurd (omega arith)
 reads_stopped reads at a b (Err e) r tells sure step page fault (inr (key, is)) = sure step page fault cc
 
-module _ {M F : Type 0} (meaning : M → Meaning) (sized : (x : M) → Sized (meaning x)) (bytes : F → List ℕ) (reads : ℕ → List ℕ → Result F BadByte) where
+module _ {M F K : Type 0} (meaning : M → Meaning) (sized : (x : M) → Sized (meaning x)) (bytes : F → List ℕ) (reads : K → List ℕ → Result F BadByte) where
   -- a change under a slip, or none
   edited_stopped : (tells : Result (Unit {0}) Refusal → Answer F) → TellsSure tells
       → (i : ℕ) (change : Change) (key : ℕ) (value : List ℕ) (r : Answer F) (a b : Moment M) (k : Book)
@@ -284,7 +284,7 @@ module _ {M F : Type 0} (meaning : M → Meaning) (sized : (x : M) → Sized (me
       a.work b.work k x small kept edits)
 
   -- no call that keeps to the book is refused for a bad run
-  pub makes_stopped : (c : Call F) (r : Answer F) (a b : Moment M) (k : Book) → Makes meaning bytes reads c r a b → Kept meaning a k → AsStopped r
+  pub makes_stopped : (c : Call F K) (r : Answer F) (a b : Moment M) (k : Book) → Makes meaning bytes reads c r a b → Kept meaning a k → AsStopped r
   makes_stopped Open r a b k (x, is, opens, _, _) kept =
       told_sure _ x r is (opens_stop meaning a.store.medium b.store.medium a.store.state b.store.state a.work b.work x opens)
   makes_stopped Begin r a b k (x, gives, begins, _, _) kept =
@@ -311,7 +311,7 @@ module _ {M F : Type 0} (meaning : M → Meaning) (sized : (x : M) → Sized (me
       (looks_stop (meaning a.store.medium) a.store.state (touched_by a.store.edit) k key a.work b.work x kept looks)
 
   -- and so of a run of calls
-  pub ran_stopped : (cs : List (Call F)) (rs : List (Answer F)) (a b : Moment M) (k : Book) → Ran meaning bytes reads cs rs a b → Kept meaning a k → AllByRecursion AsStopped rs
+  pub ran_stopped : (cs : List (Call F K)) (rs : List (Answer F)) (a b : Moment M) (k : Book) → Ran meaning bytes reads cs rs a b → Kept meaning a k → AllByRecursion AsStopped rs
   ran_stopped [] [] a b k ran kept = tt
   ran_stopped [] (r ∷ rs) a b k ran kept = absurd ran
   ran_stopped (c ∷ cs) [] a b k ran kept = absurd ran

@@ -41,7 +41,7 @@ after_save k (Err (ByForm key e)) = k
 after_save k (Err (NotOfForm key page bad)) = k
 
 -- the book is fed a call and its answer, and nothing else
-abbrev pub fed : {F : Type 0} → (F → List ℕ) → Book → Call F → Answer F → Book
+abbrev pub fed : {F K : Type 0} → (F → List ℕ) → Book → Call F K → Answer F → Book
 fed bytes k Open r = k
 fed bytes k Begin r = if_taken r (record { saved = k.saved; draft = k.saved; either = k.either }) k
 fed bytes k (Put i key value) r = if_taken r (drafted k key (Some (vec_items value))) k
@@ -56,7 +56,7 @@ fed bytes k (ChangeForm i key value) r = if_taken r (drafted k key (Some (bytes 
 fed bytes k (LookForm key kind) r = k
 
 -- and so call by call
-abbrev pub fed_all : {F : Type 0} → (F → List ℕ) → Book → List (Call F) → List (Answer F) → Book
+abbrev pub fed_all : {F K : Type 0} → (F → List ℕ) → Book → List (Call F K) → List (Answer F) → Book
 fed_all bytes k [] rs = k
 fed_all bytes k (c ∷ cs) [] = k
 fed_all bytes k (c ∷ cs) (r ∷ rs) = fed_all bytes (fed bytes k c r) cs rs
@@ -89,7 +89,7 @@ OpensAlike {M} meaning = (a b n o : M) (s t u : State) (touched work new page ag
 
 -- what is left after a cut is read under its forms: of the values that the book says (or, in doubt, of the draft's, whole), each
 -- that is the bytes of a form's value v is read, under the form of v, as v, on a medium opened after the cut that has not stopped
-abbrev pub ReadsForms : {M F : Type 0} → (M → Meaning) → (F → ℕ) → (F → List ℕ) → (ℕ → List ℕ → Result F BadByte) → M → Book → Type 0
+abbrev pub ReadsForms : {M F K : Type 0} → (M → Meaning) → (F → K) → (F → List ℕ) → (K → List ℕ → Result F BadByte) → M → Book → Type 0
 ReadsForms {M} {F} meaning kind bytes reads m k =
     (n o : M) (t : State) → CutMedium (meaning m) (meaning n) → Reopens meaning n o t
     → (v : Values) × ((v ≡ k.saved) ⊎ ((k.either ≡ true) × (v ≡ k.draft))) × Says (shown_file (meaning n)) v
@@ -103,8 +103,8 @@ AsStopped r = (step : Step) (page : ℕ) (fault : MediumFault)
     → (r ≡ Err (ByStore (Medium step page fault))) ⊎ ((key : ℕ) × (r ≡ Err (ByForm key (Medium step page fault)))) → fault ≡ Stopped
 
 -- the cut theorem of a run, from moment a to moment b, by these calls with these answers
-pub record Secure {M F : Type 0} (meaning : M → Meaning) (kind : F → ℕ) (bytes : F → List ℕ) (reads : ℕ → List ℕ → Result F BadByte)
-    (cs : List (Call F)) (rs : List (Answer F)) (a b : Moment M) : Type 0 where
+pub record Secure {M F K : Type 0} (meaning : M → Meaning) (kind : F → K) (bytes : F → List ℕ) (reads : K → List ℕ → Result F BadByte)
+    (cs : List (Call F K)) (rs : List (Answer F)) (a b : Moment M) : Type 0 where
   -- where a use begins, the store keeps to the book of the file as it is found
   pub begins : (v : Values) → UseBegins meaning a v → Kept meaning a (opening v)
   -- it goes on keeping to the book, which is fed the calls and their answers: so a use can be run in pieces

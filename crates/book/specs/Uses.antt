@@ -127,7 +127,7 @@ OnlyReads a b = (b.store ≡ a.store) × (b.slips ≡ a.slips)
 
 -- what a call does from one moment to the next, and what it answers: each as the store's own call promises. `bytes` and `reads`
 -- are those of the forms.
-abbrev pub Makes : {M F : Type 0} → (M → Meaning) → (F → List ℕ) → (ℕ → List ℕ → Result F BadByte) → Call F → Answer F → Moment M → Moment M → Type 0
+abbrev pub Makes : {M F K : Type 0} → (M → Meaning) → (F → List ℕ) → (K → List ℕ → Result F BadByte) → Call F K → Answer F → Moment M → Moment M → Type 0
 Makes meaning bytes reads Open r a b =
     (x : Result Opened Refusal) × (r ≡ told HasOpened x)
     × Opens meaning a.store.medium b.store.medium a.store.state b.store.state a.work b.work x
@@ -158,7 +158,7 @@ Makes meaning bytes reads (LookForm key kind) r a b =
     (x : Result Place Refusal) × Reads (reads kind) key a b x r × Looks (meaning a.store.medium) a.store.state key a.work b.work x × OnlyReads a b
 
 -- calls made one after the other, each with its answer
-abbrev pub Ran : {M F : Type 0} → (M → Meaning) → (F → List ℕ) → (ℕ → List ℕ → Result F BadByte) → List (Call F) → List (Answer F) → Moment M → Moment M → Type 0
+abbrev pub Ran : {M F K : Type 0} → (M → Meaning) → (F → List ℕ) → (K → List ℕ → Result F BadByte) → List (Call F K) → List (Answer F) → Moment M → Moment M → Type 0
 Ran meaning bytes reads [] [] a b = b ≡ a
 Ran meaning bytes reads [] (r ∷ rs) a b = ⊥
 Ran meaning bytes reads (c ∷ cs) [] a b = ⊥

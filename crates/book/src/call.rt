@@ -2,9 +2,9 @@
 use form::BadByte;
 use store::{Opened, Place, Refusal};
 
-// A call. A slip is named by its place among those that were given; F has the values of the forms.
+// A call. A slip is named by its place among those that were given; F has the values of the forms, and K their kinds.
 #[derive(Drop)]
-pub enum Call<F> {
+pub enum Call<F, K> {
     Open,
     Begin,
     Put {
@@ -46,7 +46,7 @@ pub enum Call<F> {
     },
     LookForm {
         key: u32,
-        kind: u8,
+        kind: K,
     },
 }
 

@@ -17,7 +17,7 @@ pub(super) fn make<M: Medium, F: Forms>(
     store: &mut Store<M>,
     slips: &mut Slips,
     work: &mut [u8],
-    call: &Call<F>,
+    call: &Call<F, u8>,
 ) -> Result<Done<F>, Denied>
     requires { vec_len slips.old.given < vec_capacity slips.old.given }
     ensures makes { Makes M.Medium.meaning F.Forms.bytes F.Forms.reads call.now result (moment store.old slips.old work.old) (moment store.new slips.new work.new) }
