@@ -48,16 +48,6 @@ abbrev pub told_of : {F T : Type 0} → ℕ → (T → Done F) → Result T Refu
 told_of key done (Ok x) = Ok (done x)
 told_of key done (Err e) = Err (ByForm key e)
 
--- a store's answer with its refusal as the use's
-abbrev pub by_store : {T : Type 0} → Result T Refusal → Result T Denied
-by_store (Ok x) = Ok x
-by_store (Err e) = Err (ByStore e)
-
--- the answer of a change under a slip, where there was one
-abbrev pub changed_by : {F : Type 0} → (Result (Unit {0}) Refusal → Answer F) → Option (Result (Unit {0}) Refusal) → Answer F
-changed_by tells None = Err NoSlip
-changed_by tells (Some x) = tells x
-
 -- the slip that was given as number i, counted from 0, if it is not spent
 abbrev pub slip_at : {M : Type 0} → Moment M → ℕ → Option Slip
 slip_at a i = slice_index_or a.slips i None
@@ -74,12 +64,7 @@ MakesEdit meaning change key value slip a b x =
     a.store.medium b.store.medium a.store.state a.store.edit b.store.edit a.work b.work x
     × (b.store.state ≡ a.store.state) × (b.slips ≡ a.slips)
 
--- a change under the slip given as number i, or none where there is no such slip
-abbrev pub MadeEdit : {M : Type 0} → (M → Meaning) → ℕ → Change → ℕ → List ℕ → Moment M → Moment M → Option (Result (Unit {0}) Refusal) → Type 0
-MadeEdit meaning i change key value a b None = (slip_at a i ≡ None) × (b ≡ a)
-MadeEdit meaning i change key value a b (Some x) = (slip : Slip) × (slip_at a i ≡ Some slip) × MakesEdit meaning change key value slip a b x
-
--- the same told: a change under the slip given as number i
+-- a change under the slip given as number i, told
 abbrev pub Edited : {M F : Type 0} → (M → Meaning) → (Result (Unit {0}) Refusal → Answer F) → ℕ → Change → ℕ → List ℕ → Moment M → Moment M → Answer F → Type 0
 Edited meaning tells i change key value a b r =
     Slipless i a b r
@@ -88,20 +73,6 @@ Edited meaning tells i change key value a b r =
 -- the slip given as number i is spent, and the edit noted stays
 abbrev pub Spends : {M : Type 0} → ℕ → Moment M → Moment M → Type 0
 Spends i a b = (b.slips ≡ slice_set a.slips i None) × (b.store.edit ≡ a.store.edit) × (b.work ≡ a.work)
-
--- a save under the slip given as number i, or none where there is no such slip
-abbrev pub MadeSave : {M : Type 0} → (M → Meaning) → ℕ → Moment M → Moment M → Option (Result (ℕ × ℕ) Refusal) → Type 0
-MadeSave meaning i a b None = (slip_at a i ≡ None) × (b ≡ a)
-MadeSave meaning i a b (Some x) =
-    (slip : Slip) × (slip_at a i ≡ Some slip)
-    × Saves meaning slip.number a.store.medium b.store.medium a.store.state b.store.state a.store.edit x × Spends i a b
-
--- an abandon likewise
-abbrev pub MadeAbandon : {M : Type 0} → (M → Meaning) → ℕ → Moment M → Moment M → Option (Result (Unit {0}) Refusal) → Type 0
-MadeAbandon meaning i a b None = (slip_at a i ≡ None) × (b ≡ a)
-MadeAbandon meaning i a b (Some x) =
-    (slip : Slip) × (slip_at a i ≡ Some slip)
-    × Abandons meaning slip.number a.store.medium b.store.medium a.store.state b.store.state a.store.edit x × Spends i a b
 
 -- an accepted begin adds its slip to those given
 abbrev pub Gives : {M F : Type 0} → Moment M → Moment M → Result Slip Refusal → Answer F → Type 0

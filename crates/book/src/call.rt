@@ -1,4 +1,7 @@
 // The calls of a use, and their answers.
+ghost use Rattle.std.specs.Prelude.{◌≡◌};
+ghost use Rattle.book.specs.declared.call.Denied.TheVariants.{Store};
+
 use form::BadByte;
 use store::{Opened, Place, Refusal};
 
@@ -75,4 +78,14 @@ pub enum Denied {
     Form { key: u32, refusal: Refusal },
     // 16: the record's bytes are not of the form: the key, its page and the first bad byte
     NotOfForm { key: u32, page: usize, bad: BadByte },
+}
+
+impl From<Refusal> for Denied {
+    ghost from_gives = { λ refusal denied. denied ≡ Store refusal };
+
+    fn from(refusal: Refusal) -> Denied
+        ensures { result ≡ Store refusal }
+    {
+        Denied::Store { refusal }
+    }
 }

@@ -2,11 +2,9 @@
 #![tactic(auto)]
 
 mod call;
-mod ends;
 mod make;
 mod reads;
 mod slips;
-mod tells;
 mod under;
 mod uses;
 

@@ -3,14 +3,12 @@ ghost use Rattle.std.specs.Prelude.{◌≡◌, ◌+◌, ◌<◌, ◌≤◌, vec_
 ghost use Rattle.book.specs.Uses.{Makes, moment};
 
 use super::call::{Call, Denied, Done};
-use super::ends::{abandon_under, save_under};
 use super::reads::look_under;
 use super::slips::Slips;
-use super::tells::{by_store, changed, changed_form};
-use super::under::{change_form_under, change_under, put_form_under, put_under, remove_under};
+use super::under::{edit, edit_form};
 use form::Forms;
 use medium::Medium;
-use store::Store;
+use store::{Change, Store};
 
 // Makes a call, and tells what it answers.
 pub(super) fn make<M: Medium, F: Forms>(
@@ -25,54 +23,44 @@ pub(super) fn make<M: Medium, F: Forms>(
 {
     match call {
         Call::Open => {
-            let opened = by_store(store.open(work))?;
+            let opened = store.open(work)?;
             Ok(Done::Opened { opened })
         }
         Call::Begin => {
-            let slip = by_store(store.begin())?;
+            let slip = store.begin()?;
             let number = slip.number();
-            Ok(Done::Begun {
-                slip: slips.add(slip),
-                number,
-            })
+            let slip = slips.add(slip);
+            Ok(Done::Begun { slip, number })
         }
-        Call::Put { slip, key, value } => changed(put_under(
-            store, slips, work, *slip, *key, value,
-        )),
-        Call::Change { slip, key, value } => changed(change_under(
-            store, slips, work, *slip, *key, value,
-        )),
-        Call::Remove { slip, key } => changed(remove_under(store, slips, work, *slip, *key)),
+        Call::Put { slip, key, value } => edit(store, slips, work, *slip, Change::Put, *key, value),
+        Call::Change { slip, key, value } => {
+            edit(store, slips, work, *slip, Change::Replace, *key, value)
+        }
+        Call::Remove { slip, key } => edit(store, slips, work, *slip, Change::Remove, *key, &[]),
         Call::Look { key } => {
-            let place = by_store(store.look(work, *key))?;
+            let place = store.look(work, *key)?;
             Ok(Done::Looked { place })
         }
         Call::Next { least } => {
-            let key = by_store(store.next(work, *least))?;
+            let key = store.next(work, *least)?;
             Ok(Done::Key { key })
         }
-        Call::Save { slip } => match save_under(store, slips, work, *slip) {
-            None => Err(Denied::NoSlip),
-            Some(answer) => {
-                let (counter, changes) = by_store(answer)?;
-                Ok(Done::Saved { counter, changes })
-            }
-        },
-        Call::Abandon { slip } => match abandon_under(store, slips, work, *slip) {
-            None => Err(Denied::NoSlip),
-            Some(answer) => {
-                by_store(answer)?;
-                Ok(Done::Abandoned)
-            }
-        },
-        Call::PutForm { slip, key, value } => changed_form(
-            put_form_under(store, slips, work, *slip, *key, value),
-            *key,
-        ),
-        Call::ChangeForm { slip, key, value } => changed_form(
-            change_form_under(store, slips, work, *slip, *key, value),
-            *key,
-        ),
+        Call::Save { slip } => {
+            let slip = slips.take(*slip).ok_or(Denied::NoSlip)?;
+            let (counter, changes) = store.save(slip)?;
+            Ok(Done::Saved { counter, changes })
+        }
+        Call::Abandon { slip } => {
+            let slip = slips.take(*slip).ok_or(Denied::NoSlip)?;
+            store.abandon(slip)?;
+            Ok(Done::Abandoned)
+        }
+        Call::PutForm { slip, key, value } => {
+            edit_form(store, slips, work, *slip, Change::Put, *key, value)
+        }
+        Call::ChangeForm { slip, key, value } => {
+            edit_form(store, slips, work, *slip, Change::Replace, *key, value)
+        }
         Call::LookForm { key, kind } => look_under(store, slips, work, *key, *kind),
     }
 }

@@ -17,16 +17,12 @@ pub(super) fn look_under<M: Medium, F: Forms>(
 ) -> Result<Done<F>, Denied>
     ensures { LooksUnder M.Medium.meaning (F.Forms.reads of) key (moment store.now slips.now work.old) (moment store.now slips.now work.new) result }
 {
-    let place = match store.look(work, key) {
-        Ok(place) => place,
-        Err(refusal) => return Err(Denied::Form { key, refusal }),
-    };
+    let place = store
+        .look(work, key)
+        .map_err(|refusal| Denied::Form { key, refusal })?;
+    let page = store.page_of(key).unwrap_or(0);
     match F::read(of, value_at(work, place)) {
         Ok(value) => Ok(Done::Value { value }),
-        Err(bad) => Err(Denied::NotOfForm {
-            key,
-            page: store.page_of(key).unwrap_or(0),
-            bad,
-        }),
+        Err(bad) => Err(Denied::NotOfForm { key, page, bad }),
     }
 }

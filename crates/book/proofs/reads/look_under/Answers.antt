@@ -1,19 +1,14 @@
-use Rattle.std.proofs.Common.{Ok, Err, unwrap_or, sym, ap, ◌∙◌, inr}
-use Rattle.store.specs.Looks.{opened}
-use Rattle.book.specs.declared.call.Denied.TheVariants.{NotOfForm}
-use Rattle.book.proofs.Told.{page_told}
+use Rattle.std.proofs.Common.{◌≡◌, Ok, Err, sym, ap, ◌∙◌, refl, subst, rules}
+use Rattle.store.specs.Looks.{Looks}
+use Rattle.book.specs.Uses.{moment}
+use Rattle.book.proofs.Told.{read_bad}
 use Rattle.book.proofs.reads.look_under.Goals as goal
 
-pub returns-in-Err-read : goal.returns-in-Err-read
-returns-in-Err-read g c =
-    let looks = c.in-Ok.ensures in
-    let first = looks.0 in
-    let page = page_told c.args.key (opened c.args.store.now.state) first c.page_of.result looks.1.1 c.page_of.ensures in (
-      Ok c.in-Ok.place,
-      inr (
-        c.in-Err-read.bad,
-        ap (g.F.Forms.reads c.args.of) (sym c.value_at.ensures) ∙ sym c.in-Err-read.ensures,
-        (first, looks.1.1, ap (λ p. Err (NotOfForm c.args.key p c.in-Err-read.bad)) (c.unwrap_or.ensures ∙ ap (λ o. unwrap_or o 0) page)),
-      ),
-      looks,
-    )
+pub returns-in-Err : goal.returns-in-Err
+returns-in-Err g c =
+    let found : c.look.result ≡ Ok c.in_ok-place.place = search rules in
+    read_bad g.M.Medium.meaning (g.F.Forms.reads c.args.of) c.args.key c.unwrap_or-page.result
+    (moment c.args.store.now c.args.slips.now c.args.work.now) (moment c.args.store.now c.args.slips.now c.look.new.work)
+    c.in_ok-place.place c.in-Err.bad _
+    (subst (λ x. Looks (g.M.Medium.meaning c.args.store.now.medium) c.args.store.now.state c.args.key c.args.work.now c.look.new.work x) found c.look.ensures)
+    (ap (g.F.Forms.reads c.args.of) (sym c.value_at.ensures) ∙ sym c.read.ensures ∙ c.in-Err.is) (search rules) refl
