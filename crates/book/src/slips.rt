@@ -46,10 +46,7 @@ impl Slips {
     pub(super) fn get(&self, at: usize) -> Option<&Slip>
         ensures { option_map (λ x. x.now) result ≡ slice_index_or self.now.given.items at None }
     {
-        if at >= self.given.len() {
-            return None;
-        }
-        self.given[at].as_ref()
+        self.given.get(at)?.as_ref()
     }
 
     // Whether the slip at a place was given and is not spent.
@@ -62,16 +59,10 @@ impl Slips {
     // Takes the slip at a place, to be spent.
     pub(super) fn take(&mut self, at: usize) -> Option<Slip>
         ensures taken { result ≡ slice_index_or self.old.given.items at None }
-        ensures left { MatchOption result (self.new ≡ self.old) (λ _. self.new.given.items ≡ slice_set self.old.given.items at None) }
+        ensures left { MatchOption result (self.new.given.items ≡ self.old.given.items) (λ _. self.new.given.items ≡ slice_set self.old.given.items at None) }
         ensures room { (vec_capacity self.new.given ≡ vec_capacity self.old.given) × (vec_len self.new.given ≡ vec_len self.old.given) }
     {
-        if at >= self.given.len() {
-            return None;
-        }
-        if self.given[at].is_none() {
-            return None;
-        }
-        self.given[at].take()
+        self.given.get_mut(at)?.take()
     }
 
     // Ends the slips: every one that is left is spent on an abandon at a store, which refuses them all if it is shut.
