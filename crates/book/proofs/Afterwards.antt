@@ -54,7 +54,7 @@ alike_itself n sized only = (settled_leaves n sized only, λ _ p l. refl)
 
 -- a stopped medium shows nothing
 alike_stopped : (n o : Meaning) → Leaves n o → o.stopped ≡ true → Alike n o
-alike_stopped n o leaves stop = (leaves, λ runs. let z : ◌≡◌ {A = ℕ} 0 1 = cc in absurd (omega arith))
+alike_stopped n o leaves stop = (leaves, λ runs. absurd cc)
 
 -- clearing pages that show no change leaves the words shown
 spread_leaves : (n o : Meaning) (first : FirstPage) → Sized n → Settles n
@@ -86,7 +86,7 @@ clears_none meaning counter (q ∷ qs) a x n none (y, false, k, (_, _, is), rest
     clears_none meaning counter qs y x k (λ r h. subst (λ z. begun_side counter ((meaning z).shown r) ≡ None) (sym is) (none r (inr h))) rest ∙ is
 clears_none meaning counter (q ∷ qs) a x n none (y, true, k, (_, (s, some, _)), rest, _) =
     let no : begun_side counter ((meaning a).shown q) ≡ None = none q (inl refl) in
-    let z : ◌≡◌ {A = ℕ} 0 1 = cc in absurd (omega arith)
+    absurd cc
 
 module _ {M : Type 0} (meaning : M → Meaning) (n o : M) (sized : Sized (meaning n)) (only : Settles (meaning n)) (calm : Calm (meaning n)) where
   -- what stays as it is
@@ -145,7 +145,7 @@ opens_alike meaning sized a b n o s t u touched work new page again x r k keeps 
 -- bytes that a form reads as a value are told as that value
 reads_value : {M F : Type 0} (reads : List ℕ → Result F BadByte) (key : ℕ) (a b : Moment M) (bytes : List ℕ) (value : F) (x : Result Place Refusal) (r : Answer F)
     → reads bytes ≡ Ok value → (p : Place) × (x ≡ Ok p) × (value_at b.work p ≡ bytes) → Reads reads key a b x r → r ≡ Ok (Value value)
-reads_value reads key a b bytes value (Err e) r there (p, is, _) told = let z : ◌≡◌ {A = ℕ} 0 1 = cc in absurd (omega arith)
+reads_value reads key a b bytes value (Err e) r there (p, is, _) told = absurd cc
 reads_value reads key a b bytes value (Ok p) r there (p', is, at) (inl (v, e, told)) =
     let place : p ≡ p' = cc in
     let read : Ok v ≡ Ok value = sym e ∙ ap (λ p. reads (value_at b.work p)) place ∙ ap reads at ∙ there in
@@ -154,7 +154,7 @@ reads_value reads key a b bytes value (Ok p) r there (p', is, at) (inl (v, e, to
 reads_value reads key a b bytes value (Ok p) r there (p', is, at) (inr (bad, e, _)) =
     let place : p ≡ p' = cc in
     let read : Err bad ≡ Ok value = sym e ∙ ap (λ p. reads (value_at b.work p)) place ∙ ap reads at ∙ there in
-    let z : ◌≡◌ {A = ℕ} 0 1 = cc in absurd (omega arith)
+    absurd cc
 
 module _ {M F K : Type 0} (meaning : M → Meaning) (sized : (x : M) → Sized (meaning x)) (kind : F → K) (bytes : F → List ℕ)
     (reads : K → List ℕ → Result F BadByte) (there : (v : F) → reads (kind v) (bytes v) ≡ Ok v) where

@@ -90,7 +90,7 @@ module _ (counter pages : ℕ) (m : Meaning) (there : pages ≤ m.pages) (sized 
   still Left n q s g l e = elim (g.each q l) [
     | inl is ↦ let none = base_none counter pages q _ (cleared_base q l) in
         let some : begun_side counter (cleared counter (m.shown q)) ≡ Some s = subst (λ p. begun_side counter p ≡ Some s) is e in
-        let z : ◌≡◌ {A = ℕ} 0 1 = cc in absurd (omega arith)
+        absurd cc
     | inr (is, _) ↦ is
   ]
 
@@ -186,7 +186,7 @@ module _ {M : Type 0} (meaning : M → Meaning) (counter pages : ℕ) (m : Meani
       subst (λ z. ((meaning z).stopped ≡ true) × Spread counter pages m (meaning z)) (sym is) (stop, g.spread)
   stopped_page Left x y q e g l (inr (s, BadRun, some, _, (bad, _))) =
       let fine = run_good (meaning x).pages q s (omega (arith, l.1, g.spread.count)) in
-      let z : ◌≡◌ {A = ℕ} 0 1 = cc in absurd (omega arith)
+      absurd cc
   stopped_page Left x y q e g l (inr (s, Stopped, some, _, (_, stop, gains, _))) =
       (stop, spread_gains counter pages m there sized sound Left (meaning x) (meaning y) q s g l some gains)
 

@@ -27,7 +27,7 @@ use Rattle.book.proofs.Ranges.{key_later}
 -- the record found for a key is that of one of the slots
 keyed_slot : (page : List ℕ) (key : ℕ) (ss : List Slot) (e : Entry) → keyed key (map (entry_of page) ss) ≡ Some e
     → (k : ℕ) × (k < length ss) × (e ≡ entry_of page (at ss k))
-keyed_slot page key [] e is = let z : ◌≡◌ {A = ℕ} 0 1 = cc in absurd (omega arith)
+keyed_slot page key [] e is = absurd cc
 keyed_slot page key (s ∷ ss) e is =
     let P : Option Entry → Type 0 = λ o. o ≡ Some e → (k : ℕ) × (k < length (s ∷ ss)) × (e ≡ entry_of page (at (s ∷ ss) k)) in
     cond_both (eqb (key_of page s) key) (Some (entry_of page s)) (keyed key (map (entry_of page) ss)) P
@@ -81,7 +81,7 @@ open_same f g e = cc
 -- a page of the file can be read while the medium runs
 not_denied : (m : Meaning) (q : ℕ) (f : MediumFault) → q < m.pages → m.stopped ≡ false → Denies m q f → ⊥
 not_denied m q BadRun l runs none = omega arith
-not_denied m q Stopped l runs (_, stop) = let z : ◌≡◌ {A = ℕ} 0 1 = cc in omega arith
+not_denied m q Stopped l runs (_, stop) = cc
 
 module _ (m : Meaning) (first : FirstPage) (base : ℕ → List ℕ) (saved : Values) (key : ℕ) (work new b : List ℕ)
     (rests : Rests m first base saved) (stands : Stands m first base) (runs : m.stopped ≡ false) (long : length work ≡ 1024)
@@ -103,7 +103,7 @@ module _ (m : Meaning) (first : FirstPage) (base : ℕ → List ℕ) (saved : Va
   found_some g same none =
       let page = page_says m g base saved key (subst (λ f. Rests m f base saved) same rests) (subst (λ f. Stands m f base) same stands) in
       let value : None ≡ Some b = sym (ap (option_map (λ e. e.value)) none) ∙ page.2 ∙ is in
-      let z : ◌≡◌ {A = ℕ} 0 1 = cc in omega arith
+      cc
 
   -- nor denied the page
   found_there : (g : FirstPage) (f : MediumFault) → first ≡ g → Denies m (page_of g.pages key) f → ⊥
@@ -117,6 +117,6 @@ module _ (m : Meaning) (first : FirstPage) (base : ℕ → List ℕ) (saved : Va
   look_says (Ok p) (g, (_, same), _, shows, (e, found, from, size)) =
       (p, refl, found_says g e p (open_same first g same) shows found from size)
   look_says (Err x) (inl (inl (_, short), _)) = absurd (short long)
-  look_says (Err x) (inl (inr (_, _, shut), _)) = let z : ◌≡◌ {A = ℕ} 0 1 = cc in absurd (omega arith)
+  look_says (Err x) (inl (inr (_, _, shut), _)) = absurd cc
   look_says (Err x) (inr (g, (_, same), inl ((f, _, denied), _))) = absurd (found_there g f (open_same first g same) denied)
   look_says (Err x) (inr (g, (_, same), inr (_, _, _, none))) = absurd (found_some g (open_same first g same) none)

@@ -150,7 +150,7 @@ going_open m n b touched new k first sized sized_b (((_, runs), fs, p, c), sound
 -- a medium that has stopped keeps to the book once it is safe
 stopped_keeps : (m : Meaning) (t : State) (touched : List ℕ) (k : Book) → Safe m k → m.stopped ≡ true → t ≡ Shut → Keeps m t touched k
 stopped_keeps m t touched k safe stop shut =
-    subst (λ u. Keeps m u touched k) (sym shut) (safe, λ runs. let z : ◌≡◌ {A = ℕ} 0 1 = cc in absurd (omega arith))
+    subst (λ u. Keeps m u touched k) (sym shut) (safe, λ runs. absurd cc)
 
 module _ {M : Type 0} (meaning : M → Meaning) (sized : (x : M) → Sized (meaning x)) (a b : M) (s : State) (touched work new : List ℕ) (k : Book)
     (keeps : Keeps (meaning a) s touched k) (begun : Begun (meaning a) s work) where

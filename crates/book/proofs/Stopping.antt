@@ -105,7 +105,7 @@ all_at P (q ∷ qs) (suc i) all l = all_at P qs i all.1 (omega (arith, l))
 -- an opened store rests on the pages that its first page tells
 opened_rests : (m : Meaning) (s : State) (touched : List ℕ) (k : Book) (first : FirstPage) → Keeps m s touched k → opened s ≡ Some first
     → (base : ℕ → List ℕ) × Rests m first base k.saved
-opened_rests m Shut touched k first keeps is = let z : ◌≡◌ {A = ℕ} 0 1 = cc in absurd (omega arith)
+opened_rests m Shut touched k first keeps is = absurd cc
 opened_rests m (IsOpen f) touched k first keeps is =
     let same : f ≡ first = cc in (keeps.0, subst (λ f. Rests m f keeps.0 k.saved) same keeps.1)
 opened_rests m (Editing f) touched k first keeps is =
@@ -125,23 +125,23 @@ key_there m s touched k first key keeps is =
 
 -- a read that is not taken up is not refused by the medium
 unread_stops : (s : State) (size : ℕ) (e : Refusal) → Readable s size (Err e) → Stops e
-unread_stops s size e (inl (at, _)) step page fault is = let z : ◌≡◌ {A = ℕ} 0 1 = cc in absurd (omega arith)
-unread_stops s size e (inr (at, _, _)) step page fault is = let z : ◌≡◌ {A = ℕ} 0 1 = cc in absurd (omega arith)
+unread_stops s size e (inl (at, _)) step page fault is = absurd cc
+unread_stops s size e (inr (at, _, _)) step page fault is = absurd cc
 
 -- neither is a key that is not there
 unkeyed_stops : (e : Refusal) → e ≡ NoSuchKey → Stops e
-unkeyed_stops e at step page fault is = let z : ◌≡◌ {A = ℕ} 0 1 = cc in absurd (omega arith)
+unkeyed_stops e at step page fault is = absurd cc
 
 -- nor a slip that is no open edit's
 unmatched_stops : (e : Refusal) → e ≡ NoEdit → Stops e
-unmatched_stops e at step page fault is = let z : ◌≡◌ {A = ℕ} 0 1 = cc in absurd (omega arith)
+unmatched_stops e at step page fault is = absurd cc
 
 -- nor what the page refused
 passed_stops : (k : PageRefusal) (e : Refusal) → e ≡ passed_up k → Stops e
-passed_stops InDraft e at step page fault is = let z : ◌≡◌ {A = ℕ} 0 1 = cc in absurd (omega arith)
-passed_stops NoKey e at step page fault is = let z : ◌≡◌ {A = ℕ} 0 1 = cc in absurd (omega arith)
-passed_stops Full e at step page fault is = let z : ◌≡◌ {A = ℕ} 0 1 = cc in absurd (omega arith)
-passed_stops Nowhere e at step page fault is = let z : ◌≡◌ {A = ℕ} 0 1 = cc in absurd (omega arith)
+passed_stops InDraft e at step page fault is = absurd cc
+passed_stops NoKey e at step page fault is = absurd cc
+passed_stops Full e at step page fault is = absurd cc
+passed_stops Nowhere e at step page fault is = absurd cc
 
 -- looking
 looks_stop : (m : Meaning) (s : State) (touched : List ℕ) (k : Book) (key : ℕ) (work new : List ℕ) (x : Result Place Refusal) → Keeps m s touched k
@@ -238,38 +238,38 @@ TellsSure {F} {T} tells = (x : Result T Refusal) (r : Answer F) → r ≡ tells 
 
 -- so it is as the store tells it
 told_sure : {F T : Type 0} (done : T → Done F) → TellsSure (told done)
-told_sure done (Ok x) r at sure step page fault (inl is) = let z : ◌≡◌ {A = ℕ} 0 1 = cc in absurd (omega arith)
-told_sure done (Ok x) r at sure step page fault (inr (key, is)) = let z : ◌≡◌ {A = ℕ} 0 1 = cc in absurd (omega arith)
+told_sure done (Ok x) r at sure step page fault (inl is) = absurd cc
+told_sure done (Ok x) r at sure step page fault (inr (key, is)) = absurd cc
 told_sure done (Err e) r at sure step page fault (inl is) = sure step page fault cc
-told_sure done (Err e) r at sure step page fault (inr (key, is)) = let z : ◌≡◌ {A = ℕ} 0 1 = cc in absurd (omega arith)
+told_sure done (Err e) r at sure step page fault (inr (key, is)) = absurd cc
 
 -- and under a form
 told_of_sure : {F T : Type 0} (at : ℕ) (done : T → Done F) → TellsSure (told_of at done)
-told_of_sure at done (Ok x) r tells sure step page fault (inl is) = let z : ◌≡◌ {A = ℕ} 0 1 = cc in absurd (omega arith)
-told_of_sure at done (Ok x) r tells sure step page fault (inr (key, is)) = let z : ◌≡◌ {A = ℕ} 0 1 = cc in absurd (omega arith)
-told_of_sure at done (Err e) r tells sure step page fault (inl is) = let z : ◌≡◌ {A = ℕ} 0 1 = cc in absurd (omega arith)
+told_of_sure at done (Ok x) r tells sure step page fault (inl is) = absurd cc
+told_of_sure at done (Ok x) r tells sure step page fault (inr (key, is)) = absurd cc
+told_of_sure at done (Err e) r tells sure step page fault (inl is) = absurd cc
 told_of_sure at done (Err e) r tells sure step page fault (inr (key, is)) = sure step page fault cc
 
 -- without a slip the medium is not asked
 slipless_stopped : {M F : Type 0} (i : ℕ) (a b : Moment M) (r : Answer F) → Slipless i a b r → AsStopped r
-slipless_stopped i a b r (_, at, _) step page fault (inl is) = let z : ◌≡◌ {A = ℕ} 0 1 = cc in absurd (omega arith)
-slipless_stopped i a b r (_, at, _) step page fault (inr (key, is)) = let z : ◌≡◌ {A = ℕ} 0 1 = cc in absurd (omega arith)
+slipless_stopped i a b r (_, at, _) step page fault (inl is) = absurd cc
+slipless_stopped i a b r (_, at, _) step page fault (inr (key, is)) = absurd cc
 
 -- the answer of a begin
 gives_stopped : {M F : Type 0} (a b : Moment M) (x : Result Slip Refusal) (r : Answer F) → Gives a b x r → Sure x → AsStopped r
-gives_stopped a b (Ok slip) r (at, _) sure step page fault (inl is) = let z : ◌≡◌ {A = ℕ} 0 1 = cc in absurd (omega arith)
-gives_stopped a b (Ok slip) r (at, _) sure step page fault (inr (key, is)) = let z : ◌≡◌ {A = ℕ} 0 1 = cc in absurd (omega arith)
+gives_stopped a b (Ok slip) r (at, _) sure step page fault (inl is) = absurd cc
+gives_stopped a b (Ok slip) r (at, _) sure step page fault (inr (key, is)) = absurd cc
 gives_stopped a b (Err e) r (at, _) sure step page fault (inl is) = sure step page fault cc
-gives_stopped a b (Err e) r (at, _) sure step page fault (inr (key, is)) = let z : ◌≡◌ {A = ℕ} 0 1 = cc in absurd (omega arith)
+gives_stopped a b (Err e) r (at, _) sure step page fault (inr (key, is)) = absurd cc
 
 -- the answer of a look under a form
 reads_stopped : {M F : Type 0} (reads : List ℕ → Result F BadByte) (at : ℕ) (a b : Moment M) (x : Result Place Refusal) (r : Answer F) → Reads reads at a b x r
     → Sure x → AsStopped r
-reads_stopped reads at a b (Ok p) r (inl (_, _, tells)) sure step page fault (inl is) = let z : ◌≡◌ {A = ℕ} 0 1 = cc in absurd (omega arith)
-reads_stopped reads at a b (Ok p) r (inl (_, _, tells)) sure step page fault (inr (key, is)) = let z : ◌≡◌ {A = ℕ} 0 1 = cc in absurd (omega arith)
-reads_stopped reads at a b (Ok p) r (inr (_, _, (_, _, tells))) sure step page fault (inl is) = let z : ◌≡◌ {A = ℕ} 0 1 = cc in absurd (omega arith)
-reads_stopped reads at a b (Ok p) r (inr (_, _, (_, _, tells))) sure step page fault (inr (key, is)) = let z : ◌≡◌ {A = ℕ} 0 1 = cc in absurd (omega arith)
-reads_stopped reads at a b (Err e) r tells sure step page fault (inl is) = let z : ◌≡◌ {A = ℕ} 0 1 = cc in absurd (omega arith)
+reads_stopped reads at a b (Ok p) r (inl (_, _, tells)) sure step page fault (inl is) = absurd cc
+reads_stopped reads at a b (Ok p) r (inl (_, _, tells)) sure step page fault (inr (key, is)) = absurd cc
+reads_stopped reads at a b (Ok p) r (inr (_, _, (_, _, tells))) sure step page fault (inl is) = absurd cc
+reads_stopped reads at a b (Ok p) r (inr (_, _, (_, _, tells))) sure step page fault (inr (key, is)) = absurd cc
+reads_stopped reads at a b (Err e) r tells sure step page fault (inl is) = absurd cc
 reads_stopped reads at a b (Err e) r tells sure step page fault (inr (key, is)) = sure step page fault cc
 
 module _ {M F K : Type 0} (meaning : M → Meaning) (sized : (x : M) → Sized (meaning x)) (bytes : F → List ℕ) (reads : K → List ℕ → Result F BadByte) where
