@@ -1,5 +1,5 @@
 -- A call of a use is never refused for a bad run.
-use Rattle.std.proofs.Common.{◌≡◌, ℕ, zero, suc, ◌+◌, ◌-◌, ◌^◌, ◌<◌, ◌≤◌, true, false, ltb, List, [], ◌∷◌, length, get_or, take, Some, Ok, Err, vec_items, Result, sym, refl, ap, ◌∙◌, subst, inl, inr, arith}
+use Rattle.std.proofs.Common.{◌≡◌, ℕ, zero, suc, ◌+◌, ◌-◌, ◌^◌, ◌<◌, ◌≤◌, true, false, ltb, List, [], ◌∷◌, length, get_or, take, Some, Ok, Err, vec_items, Result, sym, refl, ap, ◌∙◌, subst, inl, inr, arith, rules}
 use Rattle.std.specs.List.{AllByRecursion}
 use Rattle.std.proofs.lemmas.List.FromFn.{get_or-range_with_len, length-range_with_len}
 use Rattle.std.proofs.lemmas.Bool.{both_ways, ltb-false}
@@ -57,25 +57,21 @@ Sure (Err e) = Stops e
 
 -- a page that is there is not denied for a bad run
 denied_stops : (m : Meaning) (q : ℕ) (e : Refusal) → q < m.pages → ReadDenied m q e → Stops e
-denied_stops m q e l (BadRun, _, none) step page fault is = absurd (omega (arith, l, none))
-denied_stops m q e l (Stopped, at, _) step page fault is = cc
+denied_stops m q e l denied step page fault is = search rules
 
 -- nor is a good run refused
 wrote_stops : (m n : Meaning) (q s : ℕ) (b : List ℕ) (f : MediumFault) (e : Refusal) → (good m.pages q s (length b) ≡ false → ⊥)
     → e ≡ Medium Write q f → Wrote m n q s b (Err f) → Stops e
-wrote_stops m n q s b BadRun e fine at (bad, _) step page fault is = absurd (fine bad)
-wrote_stops m n q s b Stopped e fine at wrote step page fault is = cc
+wrote_stops m n q s b f e fine at wrote step page fault is = search rules
 
 -- a settle is refused only by a medium that has stopped
 settles_stop : (m n : Meaning) (e : Refusal) → SettlesOr m n (Err e) → Stops e
-settles_stop m n e (f, at, (stop, _, _, _)) step page fault is = cc
+settles_stop m n e settles step page fault is = search rules
 
 module _ {M : Type 0} (meaning : M → Meaning) (counter : ℕ) where
   -- a page that is there is cleared, or the medium has stopped
   page_stops : (q : ℕ) (a b : M) (e : Refusal) → q < (meaning a).pages → ClearsPage meaning counter q a b (Err e) → Stops e
-  page_stops q a b e l (inl (denied, _)) = denied_stops (meaning a) q e l denied
-  page_stops q a b e l (inr (s, f, _, at, wrote)) =
-      wrote_stops (meaning a) (meaning b) q (start s) zeros f e (number_bad (meaning a).pages q s l) at wrote
+  page_stops q a b e l clears = search (rules, denied_stops, wrote_stops, number_bad)
 
   -- clearing leaves the pages there
   clears_count : (qs : List ℕ) (a b : M) (n : ℕ) → Clears meaning counter qs a b n → (meaning b).pages ≡ (meaning a).pages
@@ -123,48 +119,19 @@ key_there m s touched k first key keeps is =
     let r = opened_rests m s touched k first keeps is in
     within m first r.0 k.saved (page_of first.pages key) r.1 (page_later m first r.0 k.saved key r.1)
 
--- a read that is not taken up is not refused by the medium
-unread_stops : (s : State) (size : ℕ) (e : Refusal) → Readable s size (Err e) → Stops e
-unread_stops s size e (inl (at, _)) step page fault is = absurd cc
-unread_stops s size e (inr (at, _, _)) step page fault is = absurd cc
-
--- neither is a key that is not there
-unkeyed_stops : (e : Refusal) → e ≡ NoSuchKey → Stops e
-unkeyed_stops e at step page fault is = absurd cc
-
--- nor a slip that is no open edit's
-unmatched_stops : (e : Refusal) → e ≡ NoEdit → Stops e
-unmatched_stops e at step page fault is = absurd cc
-
--- nor what the page refused
-passed_stops : (k : PageRefusal) (e : Refusal) → e ≡ passed_up k → Stops e
-passed_stops InDraft e at step page fault is = absurd cc
-passed_stops NoKey e at step page fault is = absurd cc
-passed_stops Full e at step page fault is = absurd cc
-passed_stops Nowhere e at step page fault is = absurd cc
-
 -- looking
 looks_stop : (m : Meaning) (s : State) (touched : List ℕ) (k : Book) (key : ℕ) (work new : List ℕ) (x : Result Place Refusal) → Keeps m s touched k
     → Looks m s key work new x → Sure x
-looks_stop m s touched k key work new (Ok p) keeps looks = tt
-looks_stop m s touched k key work new (Err e) keeps (inl (unread, _)) = unread_stops s (length work) e unread
-looks_stop m s touched k key work new (Err e) keeps (inr (first, (_, is), inl (denied, _))) =
-    denied_stops m (page_of first.pages key) e (key_there m s touched k first key keeps is) denied
-looks_stop m s touched k key work new (Err e) keeps (inr (first, _, inr (_, _, at, _))) = unkeyed_stops e at
+looks_stop m s touched k key work new x keeps looks = search (rules, key_there, denied_stops)
 
 -- going over the keys
 nexts_stop : (m : Meaning) (s : State) (touched : List ℕ) (k : Book) (least : ℕ) (work new : List ℕ) (x : Result ℕ Refusal) → Keeps m s touched k
     → Nexts m s least work new x → Sure x
-nexts_stop m s touched k least work new (Ok p) keeps nexts = tt
-nexts_stop m s touched k least work new (Err e) keeps (inl (unread, _)) = unread_stops s (length work) e unread
-nexts_stop m s touched k least work new (Err e) keeps (inr (first, (_, is), inl (q, one, less, denied, _, _))) =
-    denied_stops m q e (opened_there m s touched k first q keeps is (one, less)) denied
-nexts_stop m s touched k least work new (Err e) keeps (inr (first, _, inr (at, _, _))) = unkeyed_stops e at
+nexts_stop m s touched k least work new x keeps nexts = search (rules, opened_there, denied_stops)
 
 -- beginning, which asks nothing of the medium
 begins_stop : (s t : State) (e f : Edit) (x : Result Slip Refusal) → Begins s t e f x → Sure x
-begins_stop s t e f (Ok slip) begins = tt
-begins_stop s t e f (Err x) begins = λ step page fault is. absurd (subst (λ x. Begins s t e f (Err x)) is begins)
+begins_stop s t e f x begins = search rules
 
 module _ {M : Type 0} (meaning : M → Meaning) where
   -- the medium's refusal of an opening
@@ -194,7 +161,7 @@ module _ {M : Type 0} (meaning : M → Meaning) where
   saves_stop : (number : ℕ) (a b : M) (s t : State) (e : Edit) (k : Book) (x : Result (ℕ × ℕ) Refusal) → Keeps (meaning a) s (touched_by e) k
       → Saves meaning number a b s t e x → Sure x
   saves_stop number a b s t e k (Ok r) keeps saves = tt
-  saves_stop number a b s t e k (Err x) keeps (inl (at, _, _, _)) = unmatched_stops x at
+  saves_stop number a b s t e k (Err x) keeps (inl (at, _, _, _)) = λ step page fault is. absurd cc
   saves_stop number a b s t e k (Err x) keeps (inr ((first, (is, _)), commits, _)) =
       let r = opened_rests (meaning a) s (touched_by e) k first keeps (ap opened is) in
       commits_stop number a b x (omega (arith, r.1.sound.least, r.1.sound.there)) commits
@@ -203,7 +170,7 @@ module _ {M : Type 0} (meaning : M → Meaning) where
   abandons_stop : (number : ℕ) (a b : M) (s t : State) (e : Edit) (k : Book) (x : Result (Unit {0}) Refusal) → Keeps (meaning a) s (touched_by e) k
       → Abandons meaning number a b s t e x → Sure x
   abandons_stop number a b s t e k (Ok r) keeps abandons = tt
-  abandons_stop number a b s t e k (Err x) keeps (inl (at, _, _, _)) = unmatched_stops x at
+  abandons_stop number a b s t e k (Err x) keeps (inl (at, _, _, _)) = λ step page fault is. absurd cc
   abandons_stop number a b s t e k (Err x) keeps (inr (first, (is, _), _, until)) =
       let held : Keeps (meaning a) (Editing first) (touched_by e) k = subst (λ s. Keeps (meaning a) s (touched_by e) k) is keeps in
       until_stops meaning first.counter (touched_by e) a b x
@@ -213,7 +180,7 @@ module _ {M : Type 0} (meaning : M → Meaning) where
   applies_stop : (sized : (x : M) → Sized (meaning x)) (a b : M) (first : FirstPage) (e f : Edit) (change : Change) (key : ℕ) (value new : List ℕ) (k : Book) (x : Refusal)
       → key < 2 ^ 32 → length value ≤ 200 → Keeps (meaning a) (Editing first) (touched_by e) k
       → Applies meaning (page_change change key value) first.counter (page_of first.pages key) a b e f new (Err x) → Stops x
-  applies_stop sized a b first e f change key value new k x small short keeps (grants, inl (r, at, _, _, _)) = passed_stops r x at
+  applies_stop sized a b first e f change key value new k x small short keeps (grants, inl (r, at, _, _, _)) = λ step page fault is. search rules
   applies_stop sized a b first e f change key value new k x small short keeps (grants, inr (done, ((y, at, wrote), _))) =
       let c = changes (meaning a) (meaning b) first (touched_by e) k change key value new (sized a) small short grants done keeps in
       wrote_stops (meaning a) (meaning b) (page_of first.pages key) 0 new y x
@@ -238,39 +205,24 @@ TellsSure {F} {T} tells = (x : Result T Refusal) (r : Answer F) → r ≡ tells 
 
 -- so it is as the store tells it
 told_sure : {F T : Type 0} (done : T → Done F) → TellsSure (told done)
-told_sure done (Ok x) r at sure step page fault (inl is) = absurd cc
-told_sure done (Ok x) r at sure step page fault (inr (key, is)) = absurd cc
-told_sure done (Err e) r at sure step page fault (inl is) = sure step page fault cc
-told_sure done (Err e) r at sure step page fault (inr (key, is)) = absurd cc
+told_sure done x r at sure step page fault is = search rules
 
 -- and under a form
 told_of_sure : {F T : Type 0} (at : ℕ) (done : T → Done F) → TellsSure (told_of at done)
-told_of_sure at done (Ok x) r tells sure step page fault (inl is) = absurd cc
-told_of_sure at done (Ok x) r tells sure step page fault (inr (key, is)) = absurd cc
-told_of_sure at done (Err e) r tells sure step page fault (inl is) = absurd cc
-told_of_sure at done (Err e) r tells sure step page fault (inr (key, is)) = sure step page fault cc
+told_of_sure at done x r tells sure step page fault is = search rules
 
 -- without a slip the medium is not asked
 slipless_stopped : {M F : Type 0} (i : ℕ) (a b : Moment M) (r : Answer F) → Slipless i a b r → AsStopped r
-slipless_stopped i a b r (_, at, _) step page fault (inl is) = absurd cc
-slipless_stopped i a b r (_, at, _) step page fault (inr (key, is)) = absurd cc
+slipless_stopped i a b r none step page fault is = search rules
 
 -- the answer of a begin
 gives_stopped : {M F : Type 0} (a b : Moment M) (x : Result Slip Refusal) (r : Answer F) → Gives a b x r → Sure x → AsStopped r
-gives_stopped a b (Ok slip) r (at, _) sure step page fault (inl is) = absurd cc
-gives_stopped a b (Ok slip) r (at, _) sure step page fault (inr (key, is)) = absurd cc
-gives_stopped a b (Err e) r (at, _) sure step page fault (inl is) = sure step page fault cc
-gives_stopped a b (Err e) r (at, _) sure step page fault (inr (key, is)) = absurd cc
+gives_stopped a b x r gives sure step page fault is = search rules
 
 -- the answer of a look under a form
 reads_stopped : {M F : Type 0} (reads : List ℕ → Result F BadByte) (at : ℕ) (a b : Moment M) (x : Result Place Refusal) (r : Answer F) → Reads reads at a b x r
     → Sure x → AsStopped r
-reads_stopped reads at a b (Ok p) r (inl (_, _, tells)) sure step page fault (inl is) = absurd cc
-reads_stopped reads at a b (Ok p) r (inl (_, _, tells)) sure step page fault (inr (key, is)) = absurd cc
-reads_stopped reads at a b (Ok p) r (inr (_, _, (_, _, tells))) sure step page fault (inl is) = absurd cc
-reads_stopped reads at a b (Ok p) r (inr (_, _, (_, _, tells))) sure step page fault (inr (key, is)) = absurd cc
-reads_stopped reads at a b (Err e) r tells sure step page fault (inl is) = absurd cc
-reads_stopped reads at a b (Err e) r tells sure step page fault (inr (key, is)) = sure step page fault cc
+reads_stopped reads at a b x r told sure step page fault is = search rules
 
 module _ {M F K : Type 0} (meaning : M → Meaning) (sized : (x : M) → Sized (meaning x)) (bytes : F → List ℕ) (reads : K → List ℕ → Result F BadByte) where
   -- a change under a slip, or none
