@@ -1,5 +1,5 @@
 -- Beginning an edit keeps the store to its book.
-use Rattle.std.proofs.Common.{◌≡◌, ℕ, ◌+◌, ◌^◌, ◌<◌, List, [], map, None, Ok, Err, sym, ap, ◌∙◌, subst, inl, inr, arith}
+use Rattle.std.proofs.Common.{◌≡◌, ℕ, ◌+◌, ◌^◌, ◌<◌, List, [], map, None, Ok, Err, sym, ap, ◌∙◌, subst, inl, inr, arith, rules}
 use Rattle.std.specs.List.{AllByRecursion}
 use Rattle.medium.specs.Meaning.{Meaning, Sized}
 use Rattle.layout.specs.declared.first.FirstPage.{FirstPage}
@@ -50,27 +50,10 @@ begins_edit m first touched ts k fits none (base, rests, runs) = (
       ),
 )
 
--- a refused begin changes nothing
-same : (m : Meaning) (s t : State) (e f : Edit) (k : Book) → t ≡ s → f ≡ e → Keeps m s (touched_by e) k → Keeps m t (touched_by f) k
-same m s t e f k is edit keeps =
-    subst (λ t. Keeps m t (touched_by f) k) (sym is) (subst (λ f. Keeps m s (touched_by f) k) (sym edit) keeps)
-
 pub begin_keeps : {M : Type 0} (meaning : M → Meaning) → ((x : M) → Sized (meaning x)) → BeginKeeps meaning
 begin_keeps meaning sized a s t e f (Ok slip) k keeps (first, is, fits, number, then, changes, none) =
     subst (λ t. Keeps (meaning a) t (touched_by f) (begun k (Ok slip))) (sym then)
     (begins_edit (meaning a) first (touched_by e) (touched_by f) k fits none (subst (λ s. Keeps (meaning a) s (touched_by e) k) is keeps))
-begin_keeps meaning sized a s t e f (Err NotOpen) k keeps (_, is, edit) = same (meaning a) s t e f k is edit keeps
-begin_keeps meaning sized a s t e f (Err EditOpen) k keeps (_, is, edit) = same (meaning a) s t e f k is edit keeps
-begin_keeps meaning sized a s t e f (Err LastCounter) k keeps (_, is, edit) = same (meaning a) s t e f k is edit keeps
-begin_keeps meaning sized a s t e f (Err WorkPage) k keeps x = absurd x
-begin_keeps meaning sized a s t e f (Err PageCount) k keeps x = absurd x
-begin_keeps meaning sized a s t e f (Err NotAShowFile) k keeps x = absurd x
-begin_keeps meaning sized a s t e f (Err (Unsound q)) k keeps x = absurd x
-begin_keeps meaning sized a s t e f (Err (Medium step q y)) k keeps x = absurd x
-begin_keeps meaning sized a s t e f (Err NoEdit) k keeps x = absurd x
-begin_keeps meaning sized a s t e f (Err TooLong) k keeps x = absurd x
-begin_keeps meaning sized a s t e f (Err TooMany) k keeps x = absurd x
-begin_keeps meaning sized a s t e f (Err KeyInDraft) k keeps x = absurd x
-begin_keeps meaning sized a s t e f (Err NoSuchKey) k keeps x = absurd x
-begin_keeps meaning sized a s t e f (Err DraftFull) k keeps x = absurd x
-begin_keeps meaning sized a s t e f (Err NoPlace) k keeps x = absurd x
+begin_keeps meaning sized a s t e f (Err x) k keeps begins =
+    let same : (t ≡ s) × (f ≡ e) = search rules in
+    rw (same.0, same.1) keeps

@@ -1,5 +1,5 @@
 -- Each call of a use keeps the store to its book.
-use Rattle.std.proofs.Common.{◌≡◌, ℕ, List, [], ◌∷◌, Ok, Err, vec_items, Option, Result, sym, refl, ap, ◌∙◌, subst, inl, inr}
+use Rattle.std.proofs.Common.{◌≡◌, ℕ, List, [], ◌∷◌, Ok, Err, vec_items, Option, Result, sym, refl, ap, ◌∙◌, subst, inl, inr, rules}
 use Rattle.medium.specs.Meaning.{Meaning, Sized}
 use Rattle.form.specs.declared.form.BadByte.{BadByte}
 use Rattle.store.specs.declared.change.Change.{Change}
@@ -30,29 +30,24 @@ TellsEdit tells = (k : Book) (key : ℕ) (entry : Option (List ℕ)) (x : Result
 
 -- it does as the store tells it
 told_edit : (F : Type 0) → TellsEdit {F = F} (told (λ _. Changed))
-told_edit F k key entry (Ok _) = refl
-told_edit F k key entry (Err e) = refl
+told_edit F k key entry x = search rules
 
 -- and under a form
 told_form : (F : Type 0) (at : ℕ) → TellsEdit {F = F} (told_of at (λ _. Changed))
-told_form F at k key entry (Ok _) = refl
-told_form F at k key entry (Err e) = refl
+told_form F at k key entry x = search rules
 
 -- the answer of a save says what the save did to the book
 told_save : {F T : Type 0} (done : T → Done F) (k : Book) (x : Result T Refusal) → saved_by k x ≡ after_save k (told done x)
-told_save done k (Ok _) = refl
-told_save done k (Err e) = refl
+told_save done k x = search rules
 
 module _ {M F K : Type 0} (meaning : M → Meaning) (sized : (x : M) → Sized (meaning x)) (bytes : F → List ℕ) (reads : K → List ℕ → Result F BadByte) where
   -- the answer of a begin says what the begin did to the book
   gives_begun : (a b : Moment M) (x : Result Slip Refusal) (r : Answer F) (k : Book) → Gives a b x r → begun k x ≡ fed {K = K} bytes k Begin r
-  gives_begun a b (Ok slip) r k (is, _) = ap (fed {K = K} bytes k Begin) (sym is)
-  gives_begun a b (Err e) r k (is, _) = ap (fed {K = K} bytes k Begin) (sym is)
+  gives_begun a b x r k gives = search rules
 
   -- without a slip no call is made
   slipless_keeps : (i : ℕ) (a b : Moment M) (r : Answer F) (book : Answer F → Book) → Slipless i a b r → Kept meaning a (book (Err NoSlip)) → Kept meaning b (book r)
-  slipless_keeps i a b r book (_, is, same) kept =
-      subst (λ b. Kept meaning b (book r)) (sym same) (subst (λ r. Kept meaning a (book r)) (sym is) kept)
+  slipless_keeps i a b r book (_, is, same) kept = rw (same, is) kept
 
   -- a change under a slip
   edited_keeps : (tells : Result (Unit {0}) Refusal → Answer F) → TellsEdit tells

@@ -3,6 +3,7 @@ use Rattle.std.proofs.Common.{◌≡◌, ℕ, zero, suc, ◌+◌, ◌-◌, ◌^�
 use Rattle.std.specs.List.{AllByRecursion}
 use Rattle.std.proofs.lemmas.List.FromFn.{get_or-range_with_len, length-range_with_len}
 use Rattle.std.proofs.lemmas.Bool.{both_ways, ltb-false}
+use Rattle.std.proofs.lemmas.Grind.{common_steps}
 use Rattle.octets.specs.Numbers.{spell}
 use Rattle.medium.specs.declared.fault.MediumFault.{MediumFault}
 use Rattle.medium.specs.declared.fault.MediumFault.TheVariants.{BadRun, Stopped}
@@ -75,9 +76,8 @@ module _ {M : Type 0} (meaning : M → Meaning) (counter : ℕ) where
 
   -- clearing leaves the pages there
   clears_count : (qs : List ℕ) (a b : M) (n : ℕ) → Clears meaning counter qs a b n → (meaning b).pages ≡ (meaning a).pages
-  clears_count [] a b n (is, _) = ap (λ x. (meaning x).pages) is
-  clears_count (q ∷ qs) a b n (x, false, k, (_, _, is), rest, _) = clears_count qs x b k rest ∙ ap (λ x. (meaning x).pages) is
-  clears_count (q ∷ qs) a b n (x, true, k, (_, (_, _, (_, _, _, p))), rest, _) = clears_count qs x b k rest ∙ p.gains.pages
+  clears_count [] a b n clears = search rules
+  clears_count (q ∷ qs) a b n clears = search (rules, clears_count qs)
 
   -- so of pages that are there none is refused for a bad run
   until_stops : (qs : List ℕ) (a b : M) (e : Refusal) → ((i : ℕ) → i < length qs → get_or qs i 0 < (meaning a).pages)
@@ -88,24 +88,16 @@ module _ {M : Type 0} (meaning : M → Meaning) (counter : ℕ) where
 -- the pages after the first are later pages
 later_at : (pages i : ℕ) → i < length (later_pages pages) → Later pages (get_or (later_pages pages) i 0)
 later_at pages i l =
-    let count : length (later_pages pages) ≡ pages - 1 = length-range_with_len 1 (pages - 1) in
-    let at : get_or (later_pages pages) i 0 ≡ 1 + i = get_or-range_with_len 1 (pages - 1) i 0 (omega arith) in
-    (omega arith, omega arith)
+    grind (arith, length-range_with_len, get_or-range_with_len)
 
 -- what holds of all holds of each
 all_at : (P : ℕ → Type 0) (qs : List ℕ) (i : ℕ) → AllByRecursion P qs → i < length qs → P (get_or qs i 0)
-all_at P [] i all l = absurd (omega (arith, l))
-all_at P (q ∷ qs) zero all l = all.0
-all_at P (q ∷ qs) (suc i) all l = all_at P qs i all.1 (omega (arith, l))
+all_at P qs i all l = search (rules, common_steps)
 
 -- an opened store rests on the pages that its first page tells
 opened_rests : (m : Meaning) (s : State) (touched : List ℕ) (k : Book) (first : FirstPage) → Keeps m s touched k → opened s ≡ Some first
     → (base : ℕ → List ℕ) × Rests m first base k.saved
-opened_rests m Shut touched k first keeps is = absurd cc
-opened_rests m (IsOpen f) touched k first keeps is =
-    let same : f ≡ first = cc in (keeps.0, subst (λ f. Rests m f keeps.0 k.saved) same keeps.1)
-opened_rests m (Editing f) touched k first keeps is =
-    let same : f ≡ first = cc in (keeps.0, subst (λ f. Rests m f keeps.0 k.saved) same keeps.1)
+opened_rests m s touched k first keeps is = search rules
 
 -- so its later pages are there
 opened_there : (m : Meaning) (s : State) (touched : List ℕ) (k : Book) (first : FirstPage) (q : ℕ) → Keeps m s touched k → opened s ≡ Some first
@@ -136,11 +128,11 @@ begins_stop s t e f x begins = search rules
 module _ {M : Type 0} (meaning : M → Meaning) where
   -- the medium's refusal of an opening
   open_stops : (a b : M) (work new : List ℕ) (e : Refusal) → 2 ≤ (meaning a).pages → OpenStopped meaning a b work new e → Stops e
-  open_stops a b work new e two (inl (denied, _, _)) = denied_stops (meaning a) 0 e (omega arith) denied
   open_stops a b work new e two (inr (first, (fs, _, _), inl until)) =
       until_stops meaning first.counter (later_pages first.pages) a b e
       (λ i l. omega (arith, (later_at first.pages i l).1, fs.1.there, fs.2)) until
-  open_stops a b work new e two (inr (first, _, inr (x, _, settles))) = settles_stop (meaning x) (meaning b) e settles
+  open_stops a b work new e two (inl h) = search (rules, denied_stops)
+  open_stops a b work new e two (inr (first, _, inr h)) = search (rules, settles_stop)
 
   -- opening
   opens_stop : (a b : M) (s t : State) (work new : List ℕ) (x : Result Opened Refusal) → Opens meaning a b s t work new x → Sure x
@@ -151,26 +143,18 @@ module _ {M : Type 0} (meaning : M → Meaning) where
 
   -- the writing of the counter between two settles
   commits_stop : (number : ℕ) (a b : M) (e : Refusal) → 0 < (meaning a).pages → Commits meaning number a b (Err e) → Stops e
-  commits_stop number a b e there (inl settles) = settles_stop (meaning a) (meaning b) e settles
-  commits_stop number a b e there (inr (inl (x, settled, (f, at, wrote)))) =
-      wrote_stops (meaning x) (meaning b) 0 8 (spell 4 number) f e
-      (λ bad. both_ways _ bad (counter_good (meaning x).pages number (omega (arith, settled.2, there)))) at wrote
-  commits_stop number a b e there (inr (inr (x, y, _, _, settles))) = settles_stop (meaning y) (meaning b) e settles
+  commits_stop number a b e there commits = search (rules, settles_stop, wrote_stops, both_ways, counter_good)
 
   -- saving
   saves_stop : (number : ℕ) (a b : M) (s t : State) (e : Edit) (k : Book) (x : Result (ℕ × ℕ) Refusal) → Keeps (meaning a) s (touched_by e) k
       → Saves meaning number a b s t e x → Sure x
-  saves_stop number a b s t e k (Ok r) keeps saves = tt
-  saves_stop number a b s t e k (Err x) keeps (inl (at, _, _, _)) = λ step page fault is. absurd cc
-  saves_stop number a b s t e k (Err x) keeps (inr ((first, (is, _)), commits, _)) =
-      let r = opened_rests (meaning a) s (touched_by e) k first keeps (ap opened is) in
-      commits_stop number a b x (omega (arith, r.1.sound.least, r.1.sound.there)) commits
+  saves_stop number a b s t e k x keeps saves = search (rules, opened_rests, commits_stop)
 
   -- abandoning
   abandons_stop : (number : ℕ) (a b : M) (s t : State) (e : Edit) (k : Book) (x : Result (Unit {0}) Refusal) → Keeps (meaning a) s (touched_by e) k
       → Abandons meaning number a b s t e x → Sure x
   abandons_stop number a b s t e k (Ok r) keeps abandons = tt
-  abandons_stop number a b s t e k (Err x) keeps (inl (at, _, _, _)) = λ step page fault is. absurd cc
+  abandons_stop number a b s t e k (Err x) keeps (inl h) = search rules
   abandons_stop number a b s t e k (Err x) keeps (inr (first, (is, _), _, until)) =
       let held : Keeps (meaning a) (Editing first) (touched_by e) k = subst (λ s. Keeps (meaning a) s (touched_by e) k) is keeps in
       until_stops meaning first.counter (touched_by e) a b x
@@ -190,14 +174,12 @@ module _ {M : Type 0} (meaning : M → Meaning) where
   edits_stop : (sized : (x : M) → Sized (meaning x)) (a b : M) (s : State) (e f : Edit) (change : Change) (key number : ℕ) (value work new : List ℕ) (k : Book)
       (x : Result (Unit {0}) Refusal) → key < 2 ^ 32 → Keeps (meaning a) s (touched_by e) k
       → Edits meaning (page_change change key value) key number (ltb 200 (length value)) a b s e f work new x → Sure x
-  edits_stop sized a b s e f change key number value work new k (Ok u) small keeps edits = tt
-  edits_stop sized a b s e f change key number value work new k (Err x) small keeps (inl (ready, _, _, _)) = λ step page fault is.
-      absurd (subst (λ x. Ready s e.changes (length work) number (ltb 200 (length value)) (Err x)) is ready)
-  edits_stop sized a b s e f change key number value work new k (Err x) small keeps (inr (first, ready, inl ((denied, _), _, _))) =
-      denied_stops (meaning a) (page_of first.pages key) x (key_there (meaning a) s (touched_by e) k first key keeps (ap opened ready.1.0)) denied
   edits_stop sized a b s e f change key number value work new k (Err x) small keeps (inr (first, ready, inr applies)) =
       applies_stop sized a b first e f change key value new k x small (ltb-false 200 (length value) ready.2)
       (subst (λ s. Keeps (meaning a) s (touched_by e) k) ready.1.0 keeps) applies
+  edits_stop sized a b s e f change key number value work new k (Err x) small keeps (inl h) = search rules
+  edits_stop sized a b s e f change key number value work new k (Err x) small keeps (inr (first, ready, inl h)) = search (rules, key_there, denied_stops)
+  edits_stop sized a b s e f change key number value work new k (Ok u) small keeps edits = tt
 
 -- what is told of an answer is no bad run where the answer is none
 abbrev TellsSure : {F T : Type 0} → (Result T Refusal → Answer F) → Type 0
