@@ -23,7 +23,7 @@ use Rattle.book.specs.Books.{Book, Values}
 use Rattle.book.specs.Keeps.{CleanBut, Keeps, Later, Rests, Stands}
 use Rattle.book.proofs.Steps.{AbandonKeeps}
 use Rattle.book.proofs.Cutting.{rests_safe}
-use Rattle.book.proofs.Resting.{rests_gains, rests_on}
+use Rattle.book.proofs.Resting.{rests_gains, rests_on, stands_patched}
 use Rattle.book.proofs.Runs.{number_bad}
 
 -- an edit in which some pages are yet to be taken back
@@ -38,11 +38,7 @@ module _ (m : Meaning) (first : FirstPage) (base : ℕ → List ℕ) (v : Values
 
   -- a page on which nothing is begun need not be named
   unnamed : (q : ℕ) (qs : List ℕ) → begun_side first.counter (m.shown q) ≡ None → CleanBut m first (q ∷ qs) → CleanBut m first qs
-  unnamed q qs none c p l = elim (c p l) [
-    | inl clean ↦ inl clean
-    | inr (inl is) ↦ inl (subst (λ p. begun_side first.counter (m.shown p) ≡ None) (sym is) none)
-    | inr (inr has) ↦ inr has
-  ]
+  unnamed q qs none c p l = elim (c p l) [ inl clean ↦ inl clean | inr (inl is) ↦ inl (rw is none) | inr (inr has) ↦ inr has ]
 
   -- clearing a number on page q, whatever comes of it
   module _ (n : Meaning) (q : ℕ) (s : Side) (l : Later first.pages q) (some : begun_side first.counter (m.shown q) ≡ Some s) where
@@ -61,26 +57,20 @@ module _ (m : Meaning) (first : FirstPage) (base : ℕ → List ℕ) (v : Values
     leaves : (qs : List ℕ) → m.stopped ≡ false → Leaving m first base v (q ∷ qs) → Wrote m n q (start s) zeros (Ok tt) → Leaving n first base v qs
     leaves qs runs x (fit, going, goes, patches) =
         let stands = (x.runs runs).0 in
+        let none : begun_side first.counter (n.shown q) ≡ None = ap (begun_side first.counter) patches.here ∙ (back stands).1 in
         record {
           rests = gains stands patches.gains x.rests;
           later = x.later.1;
           runs = λ _. (
-            record {
-              zero = patches.others 0 (λ e. omega (arith, l.0, e)) ∙ stands.zero;
-              drafted = λ p h. ⊎_elim
-                  (λ is. subst (λ p. Drafted first.counter first.pages p (base p) (n.shown p)) (sym is)
-                  (subst (Drafted first.counter first.pages q (base q)) (sym patches.here) (back stands).0))
-                  (λ other. subst (Drafted first.counter first.pages p (base p)) (sym (patches.others p other)) (stands.drafted p h))
-                  (cases_eq p q);
-            },
-            λ p h. ⊎_elim
-                (λ is. inl (ap (λ p. begun_side first.counter (n.shown p)) is ∙ ap (begun_side first.counter) patches.here ∙ (back stands).1))
-                (λ other. elim ((x.runs runs).1 p h) [
-                  | inl clean ↦ inl (ap (begun_side first.counter) (patches.others p other) ∙ clean)
-                  | inr (inl is) ↦ absurd (other is)
-                  | inr (inr has) ↦ inr has
-                ])
-                (cases_eq p q),
+            stands_patched m n first base q (start s) zeros patches l (rw patches.here (back stands).0) stands,
+            λ p h. elim (cases_eq p q) [
+              | inl is ↦ inl (rw is none)
+              | inr other ↦ elim ((x.runs runs).1 p h) [
+                | inl clean ↦ inl (rw (patches.others p other) clean)
+                | inr (inl is) ↦ absurd (other is)
+                | inr (inr has) ↦ inr has
+              ]
+            ],
           );
         }
 

@@ -28,7 +28,7 @@ use Rattle.book.specs.Books.{Book, Values, edited, with}
 use Rattle.book.specs.Keeps.{CleanBut, Drafts, Has, Keeps, Later, Rests, Stands}
 use Rattle.book.proofs.Steps.{EditKeeps, entered}
 use Rattle.book.proofs.Ranges.{key_later}
-use Rattle.book.proofs.Resting.{rests_gains}
+use Rattle.book.proofs.Resting.{rests_gains, stands_patched}
 
 -- a page is among those it was added to
 has_added : (q : ℕ) (ts : List ℕ) → Has q (added q ts)
@@ -106,14 +106,7 @@ module _ (m n : Meaning) (first : FirstPage) (base : ℕ → List ℕ) (saved : 
 
     -- every page is still one of the edit
     stands_offered : Stands m first base → Stands n first base
-    stands_offered s = record {
-      zero = p.others 0 (λ e. omega (arith, later.0)) ∙ s.zero;
-      drafted = λ r l. elim (cases_eq r q) [
-        | inl e ↦ subst (λ r. Drafted first.counter first.pages r (base r) (n.shown r)) (sym e)
-            (subst (Drafted first.counter first.pages q (base q)) (sym here) c.0)
-        | inr ne ↦ subst (Drafted first.counter first.pages r (base r)) (sym (p.others r ne)) (s.drafted r l)
-      ];
-    }
+    stands_offered s = stands_patched m n first base q 0 new p later (rw here c.0) s
 
     -- no change is shown but on this page and those touched before
     clean_offered : (ts : List ℕ) → CleanBut m first ts → CleanBut n first (added q ts)

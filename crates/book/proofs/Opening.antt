@@ -27,6 +27,8 @@ use Rattle.book.proofs.Steps.{OpenKeeps}
 use Rattle.book.proofs.Clearing.{Going, Spread, base_none, cleared_base, cleared_none, clears_all, clears_until, spread_on}
 use Rattle.book.proofs.Cutting.{file_says, rests_safe, survives}
 use Rattle.book.proofs.Ranges.{key_later}
+use Rattle.book.proofs.Resting.{rests_spread}
+use Rattle.book.proofs.SavedPages.{settled_keeps}
 
 -- while the medium runs and no edit is open, the file shown is sound and says what is saved
 idle_shows : (m : Meaning) (s : State) (touched : List ℕ) (k : Book) → Keeps m s touched k → Idle s → m.stopped ≡ false
@@ -48,24 +50,10 @@ idle_shows m (Open first) touched k (base, rests, shows) idle runs =
 spread_rests : (m n : Meaning) (first : FirstPage) (base : ℕ → List ℕ) (v : Values) → Rests m first base v → Stands m first base
     → ((q : ℕ) → Later first.pages q → begun_side first.counter (m.shown q) ≡ None) → Spread first.counter first.pages m n
     → Rests n first base v
-spread_rests m n first base v r stands none s = record {
-  long = r.long;
-  sound = subst (λ count. FirstSound count (base 0)) (sym s.count) r.sound;
-  pages = r.pages;
-  counter = r.counter;
-  zero = λ k h w p. elim (s.within 0 k w p) [
-    | inl before ↦ r.zero k h w before
-    | inr (later, _) ↦ absurd (omega (arith, later.0))
-  ];
-  bases = r.bases;
-  words = λ q l k h w p. elim (s.within q k w p) [
-    | inl before ↦ r.words q l k h w before
-    | inr (_, is) ↦
-        subst (Allowed first.counter (base q) k) (sym (is ∙ ap (λ page. word page k) (cleared_none first.counter (m.shown q) (none q l))))
-        (near_words first.counter (base q) (m.shown q) (stands.drafted q l).near k h)
-  ];
-  said = r.said;
-}
+spread_rests m n first base v r stands none s =
+    rests_spread m n first base v (λ q. cleared first.counter (m.shown q)) s.count s.within
+    (λ q l k h. rw (cleared_none first.counter (m.shown q) (none q l))
+    (near_words first.counter (base q) (m.shown q) (stands.drafted q l).near k h)) r
 
 -- clearing a file as it was found leaves a sound one that says the same
 spread_found : (m n : Meaning) (v : Values) → Sized m → Found m v → Spread (counter_of (m.shown 0)) (pages_of (m.shown 0)) m n
@@ -121,31 +109,16 @@ going_open m n b touched new k first sized sized_b (((_, runs), fs, p, c), sound
     let zero : b.shown 0 ≡ m.shown 0 = shown 0 ∙ g.zero in
     let is : (q : ℕ) → Later P q → b.shown q ≡ cleared C (m.shown q) =
     λ q l. elim (g.each q l) [ inl e ↦ shown q ∙ e | inr (_, h) ↦ absurd h ] in
-    let bases : (q : ℕ) → Later P q → Base C P q (b.shown q) =
-    λ q l. subst (Base C P q) (sym (is q l)) (cleared_base C P m there sized sound q l) in
+    let base : (q : ℕ) → Later P q → Base C P q (cleared C (m.shown q)) = cleared_base C P m there sized sound in
     let same : (q : ℕ) → Later P q → records C (b.shown q) ≡ records C (m.shown q) =
     λ q l. ap (records C) (is q l) ∙
     ((clears C P q (m.shown q) (sized.full q (omega (arith, there, l.1))) (sound q l.0 l.1)).0
-    (cleared C (m.shown q)) (cleared_base C P m there sized sound q l).long (λ k h. inr refl)).1 in (
-      b.shown,
-      record {
-        long = sized_b.full 0 (omega (arith, pages, fs.least, fs.there));
-        sound = subst (FirstSound b.pages) (sym zero) (subst (λ i. FirstSound i (m.shown 0)) (sym pages) fs);
-        pages = ap pages_of zero ∙ sym p;
-        counter = ap counter_of zero ∙ sym c;
-        zero = λ k h w x. only 0 k w x;
-        bases = bases;
-        words = λ q l k h w x. subst (Allowed C (b.shown q) k) (sym (only q k w x))
-            (near_words C (b.shown q) (b.shown q) (near_itself C P q (b.shown q) (bases q l)) k h);
-        said = λ key.
-            let l = key_later P key (omega (arith, p, fs.least)) in
-            ap (λ es. value_in es key) (same (page_of P key) l) ∙ (λ i. value_in (records (c i) (m.shown (page_of (p i) key))) key) ∙ says key;
-      },
-      λ _. (
-        record { zero = refl; drafted = λ q l. (begins C P q (b.shown q) (bases q l)).0 },
-        λ q l. inl (base_none C P q (b.shown q) (bases q l)),
-      ),
-    )
+    (cleared C (m.shown q)) (base q l).long (λ k h. inr refl)).1 in
+    settled_keeps b first touched k only (sized_b.full 0 (omega (arith, pages, fs.least, fs.there))) (rw (zero, pages) fs)
+    (ap pages_of zero ∙ sym p) (ap counter_of zero ∙ sym c) (λ q l. rw (is q l) (base q l))
+    (λ key.
+    let l = key_later P key (omega (arith, p, fs.least)) in
+    ap (λ es. value_in es key) (same (page_of P key) l) ∙ (λ i. value_in (records (c i) (m.shown (page_of (p i) key))) key) ∙ says key)
 
 -- a medium that has stopped keeps to the book once it is safe
 stopped_keeps : (m : Meaning) (t : State) (touched : List ℕ) (k : Book) → Safe m k → m.stopped ≡ true → t ≡ Shut → Keeps m t touched k
