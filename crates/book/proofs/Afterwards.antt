@@ -29,7 +29,7 @@ use Rattle.book.proofs.Beginning.{clean}
 use Rattle.book.proofs.Clearing.{Spread, cleared_none, clears_all, clears_until, later_has, spread_on}
 use Rattle.book.proofs.Cutting.{starts, survives}
 use Rattle.book.proofs.Looking.{look_says}
-use Rattle.book.proofs.Opening.{open_keeps}
+use Rattle.book.proofs.Opening.{open_keeps, open_refused}
 
 -- no page shows a change that was begun
 abbrev Calm : Meaning → Type 0
@@ -118,21 +118,12 @@ module _ {M : Type 0} (meaning : M → Meaning) (n o : M) (sized : Sized (meanin
         words_leave (meaning n) (meaning o) sized (count ∙ ap (λ z. (meaning z).pages) is) (λ q k w p. rest q k w p ∙ ap (λ page. word page k) (same q)),
         λ _ p _. same p,
       )
-  alike_opens u page again (Err WorkPage) (_, is, _, _) = alike_stays is
-  alike_opens u page again (Err EditOpen) (_, _, is, _, _) = alike_stays is
-  alike_opens u page again (Err PageCount) (_, _, _, is, _, _) = alike_stays is
-  alike_opens u page again (Err NotAShowFile) (_, _, _, is, _, _) = alike_stays is
-  alike_opens u page again (Err (Unsound q)) (_, _, is, _, _) = alike_stays is
-  alike_opens u page again (Err (Medium step q f)) (_, stopped, _) = alike_refused page again (Medium step q f) stopped
-  alike_opens u page again (Err NotOpen) x = absurd x
-  alike_opens u page again (Err NoEdit) x = absurd x
-  alike_opens u page again (Err LastCounter) x = absurd x
-  alike_opens u page again (Err TooLong) x = absurd x
-  alike_opens u page again (Err TooMany) x = absurd x
-  alike_opens u page again (Err KeyInDraft) x = absurd x
-  alike_opens u page again (Err NoSuchKey) x = absurd x
-  alike_opens u page again (Err DraftFull) x = absurd x
-  alike_opens u page again (Err NoPlace) x = absurd x
+  alike_opens u page again (Err e) opens = elim (open_refused meaning n o Shut u page again e opens) [
+    | inl (is, _) ↦ alike_stays is
+    | inr (inl (is, _, _, _)) ↦ alike_stays is
+    | inr (inr (inl (is, _, _, _))) ↦ alike_stays is
+    | inr (inr (inr (_, stopped, _))) ↦ alike_refused page again e stopped
+  ]
 
 -- an opening after an opening and a cut changes no byte
 pub opens_alike : {M : Type 0} (meaning : M → Meaning) → ((x : M) → Sized (meaning x)) → OpensAlike meaning

@@ -1,5 +1,5 @@
 -- Clearing the pages of a file that was found.
-use Rattle.std.proofs.Common.{◌≡◌, ℕ, zero, suc, ◌+◌, ◌-◌, ◌<◌, ◌≤◌, Bool, true, false, ◌⊎◌, List, [], ◌∷◌, length, get_or, take, Some, None, Ok, Err, sym, refl, ap, ◌∙◌, subst, inl, inr, ⊎_elim, arith}
+use Rattle.std.proofs.Common.{rules, ◌≡◌, ℕ, zero, suc, ◌+◌, ◌-◌, ◌<◌, ◌≤◌, Bool, true, false, ◌⊎◌, List, [], ◌∷◌, length, get_or, take, Some, None, Ok, Err, sym, refl, ap, ◌∙◌, subst, inl, inr, ⊎_elim, arith}
 use Rattle.std.specs.List.{range_with_len}
 use Rattle.std.proofs.lemmas.List.FromFn.{get_or-range_with_len, length-range_with_len}
 use Rattle.std.proofs.lemmas.Bool.{and_from, cases_eq, lt-ltb}
@@ -21,6 +21,7 @@ use Rattle.store.specs.declared.refusal.Refusal.{Refusal}
 use Rattle.store.specs.Clearing.{ClearsPage}
 use Rattle.store.specs.Opening.{Clears, ClearsUntil, later_pages}
 use Rattle.book.specs.Keeps.{Has, Later}
+use Rattle.book.proofs.Runs.{number_bad}
 
 -- a base has no header begun
 pub base_none : (counter pages q : ℕ) (base : List ℕ) → Base counter pages q base → begun_side counter base ≡ None
@@ -41,11 +42,6 @@ pub record Going (counter pages : ℕ) (Left : ℕ → Type 0) (m n : Meaning) :
   pub spread : Spread counter pages m n
   pub zero : n.shown 0 ≡ m.shown 0
   pub each : (q : ℕ) → Later pages q → (n.shown q ≡ cleared counter (m.shown q)) ⊎ ((n.shown q ≡ m.shown q) × Left q)
-
--- the run of an edit number is good
-run_good : (pages q : ℕ) (s : Side) → q < pages → good pages q (start s) 4 ≡ true
-run_good pages q A l = and_from _ _ (lt-ltb q pages l) refl
-run_good pages q B l = and_from _ _ (lt-ltb q pages l) refl
 
 -- the n numbers from i on are those counted
 has_counting : (i n q : ℕ) → i ≤ q → q < i + n → Has q (range_with_len i n)
@@ -70,8 +66,7 @@ later_has pages q h = let r = counting_has 1 (pages - 1) q h in (r.0, omega (ari
 take_has : (i : ℕ) (qs : List ℕ) (q : ℕ) → Has q (take i qs) → Has q qs
 take_has zero qs q h = absurd h
 take_has (suc i) [] q h = absurd h
-take_has (suc i) (p ∷ qs) q (inl e) = inl e
-take_has (suc i) (p ∷ qs) q (inr h) = inr (take_has i qs q h)
+take_has (suc i) (p ∷ qs) q h = search (rules, take_has i qs)
 
 -- where no word gains a content, none is added to what clearing left
 pub spread_on : (counter pages : ℕ) (m n x : Meaning) → Spread counter pages m n → NoGain n x → Spread counter pages m x
@@ -185,8 +180,7 @@ module _ {M : Type 0} (meaning : M → Meaning) (counter pages : ℕ) (m : Meani
   stopped_page Left x y q e g l (inl ((Stopped, _, (_, stop)), is)) =
       subst (λ z. ((meaning z).stopped ≡ true) × Spread counter pages m (meaning z)) (sym is) (stop, g.spread)
   stopped_page Left x y q e g l (inr (s, BadRun, some, _, (bad, _))) =
-      let fine = run_good (meaning x).pages q s (omega (arith, l.1, g.spread.count)) in
-      absurd cc
+      absurd (number_bad (meaning x).pages q s (omega (arith, l.1, g.spread.count)) bad)
   stopped_page Left x y q e g l (inr (s, Stopped, some, _, (_, stop, gains, _))) =
       (stop, spread_gains counter pages m there sized sound Left (meaning x) (meaning y) q s g l some gains)
 

@@ -173,12 +173,6 @@ module _ (m n : Meaning) (first : FirstPage) (touched : List ℕ) (b : Book) (ch
   refused Stopped w =
       (keeps.0, rests_now w.2, keeps.2, keeps.3, λ runs. absurd (true≢false (sym w.1 ∙ runs)))
 
--- a medium and an edit that are as before keep to the book
-unmoved : {M : Type 0} (meaning : M → Meaning) (a b : M) (s : State) (e f : Edit) (k : Book) → b ≡ a → f ≡ e
-    → Keeps (meaning a) s (touched_by e) k → Keeps (meaning b) s (touched_by f) k
-unmoved meaning a b s e f k is same keeps =
-    subst (λ b. Keeps (meaning b) s (touched_by f) k) (sym is) (subst (λ f. Keeps (meaning a) s (touched_by f) k) (sym same) keeps)
-
 module _ {M : Type 0} (meaning : M → Meaning) (sized : (x : M) → Sized (meaning x)) where
   -- once the page of the key is read: it is changed and written, or refused
   applied : (a b : M) (first : FirstPage) (e f : Edit) (change : Change) (key : ℕ) (value new : List ℕ) (r : Result (Unit {0}) Refusal) (k : Book)
@@ -189,7 +183,7 @@ module _ {M : Type 0} (meaning : M → Meaning) (sized : (x : M) → Sized (mean
       subst (λ ts. Keeps (meaning b) (Editing first) ts (edited k key (entered change value) (Ok tt))) (sym h.2.1.1)
       (taken (meaning a) (meaning b) first (touched_by e) k change key value new (sized a) small short h.0 h.1 keeps h.2.0)
   applied a b first e f change key value new (Err x) k small short keeps h = elim h.1 [
-    | inl (_, _, _, is, same) ↦ unmoved meaning a b (Editing first) e f k is same keeps
+    | inl (_, _, _, is, same) ↦ rw (is, same) keeps
     | inr (done, offers) ↦
         subst (λ f. Keeps (meaning b) (Editing first) (touched_by f) k) (sym offers.1)
         (refused (meaning a) (meaning b) first (touched_by e) k change key value new (sized a) small short h.0 done keeps offers.0.0 offers.0.2)
@@ -212,9 +206,9 @@ pub edit_keeps : {M : Type 0} (meaning : M → Meaning) → ((x : M) → Sized (
 edit_keeps meaning sized a b s e f change key number value work new (Ok u) k small keeps h =
     ready_applied meaning sized a b s h.0 e f change key number (length work) value new (Ok u) k small keeps h.1 h.2
 edit_keeps meaning sized a b s e f change key number value work new (Err x) k small keeps h = elim h [
-  | inl (_, is, same, _) ↦ unmoved meaning a b s e f k is same keeps
+  | inl (_, is, same, _) ↦ rw (is, same) keeps
   | inr (first, ready, way) ↦ elim way [
-    | inl (_, is, same) ↦ unmoved meaning a b s e f k is same keeps
+    | inl (_, is, same) ↦ rw (is, same) keeps
     | inr applies ↦ ready_applied meaning sized a b s first e f change key number (length work) value new (Err x) k small keeps ready applies
   ]
 ]

@@ -1,5 +1,5 @@
 -- Opening keeps the store to its book.
-use Rattle.std.proofs.Common.{◌≡◌, ℕ, ◌<◌, ◌≤◌, true, false, List, None, Ok, Err, sym, refl, ap, ◌∙◌, subst, inl, inr, arith}
+use Rattle.std.proofs.Common.{◌⊎◌, rules, ◌≡◌, ℕ, ◌<◌, ◌≤◌, true, false, List, None, Ok, Err, sym, refl, ap, ◌∙◌, subst, inl, inr, arith}
 use Rattle.octets.specs.Files.{File, word}
 use Rattle.octets.proofs.Words.{words_same}
 use Rattle.medium.specs.declared.fault.MediumFault.TheVariants.{BadRun, Stopped}
@@ -19,8 +19,9 @@ use Rattle.store.specs.declared.refusal.Refusal.{Refusal}
 use Rattle.store.specs.declared.refusal.Refusal.TheVariants.{WorkPage, PageCount, NotAShowFile, Unsound, Medium, NotOpen, EditOpen, NoEdit, LastCounter, TooLong, TooMany, KeyInDraft, NoSuchKey, DraftFull, NoPlace}
 use Rattle.store.specs.declared.state.State.{State}
 use Rattle.store.specs.declared.state.State.TheVariants.{Shut, Open, Editing}
-use Rattle.store.specs.Opening.{Clears, later_pages}
-use Rattle.store.specs.Opens.{Begun, Checked, First, Idle, OpenStopped}
+use Rattle.store.specs.Access.{Grants}
+use Rattle.store.specs.Opening.{Clears, SoundOn, later_pages}
+use Rattle.store.specs.Opens.{Begun, Checked, First, Idle, OpenStopped, Opens}
 use Rattle.book.specs.Books.{Book, Says, Values}
 use Rattle.book.specs.Keeps.{Found, Keeps, Later, Rests, Safe, Stands}
 use Rattle.book.proofs.Steps.{OpenKeeps}
@@ -29,6 +30,39 @@ use Rattle.book.proofs.Cutting.{file_says, rests_safe, survives}
 use Rattle.book.proofs.Ranges.{key_later}
 use Rattle.book.proofs.Resting.{rests_spread}
 use Rattle.book.proofs.SavedPages.{settled_keeps}
+
+-- what an opening found is not sound: the first page, or a later one
+abbrev Faulty : Meaning → Type 0
+Faulty m =
+    (FirstSound m.pages (m.shown 0) → ⊥)
+    ⊎ ((q : ℕ) × (first : FirstPage) × First m first × (1 ≤ q) × (q < first.pages) × (SoundOn m first q → ⊥))
+
+-- then the file is not
+faulty_unsound : (m : Meaning) → Faulty m → SoundFile (shown_file m) → ⊥
+faulty_unsound m (inl never) sound = never sound.first
+faulty_unsound m (inr (q, first, (_, _, p, c), one, less, never)) sound =
+    never (rw (c, p) (sound.pages q one (omega (arith, less, p))))
+
+-- a refused opening: nothing changed; or the store is shut, on fewer than two pages or on a file that is not sound; or the medium
+-- refused
+pub open_refused : {M : Type 0} (meaning : M → Meaning) (a b : M) (s t : State) (work new : List ℕ) (e : Refusal) → Opens meaning a b s t work new (Err e)
+    → ((b ≡ a) × (t ≡ s)) ⊎ (((b ≡ a) × (t ≡ Shut) × Idle s × ((meaning a).pages < 2))
+    ⊎ (((b ≡ a) × Idle s × Grants (meaning a) 0 × Faulty (meaning a)) ⊎ (Begun (meaning a) s work × OpenStopped meaning a b work new e × (t ≡ Shut))))
+open_refused meaning a b s t work new WorkPage (_, is, same, _) = inl (is, same)
+open_refused meaning a b s t work new EditOpen (_, _, is, same, _) = inl (is, same)
+open_refused meaning a b s t work new PageCount (_, idle, few, is, shut, _) = inr (inl (is, shut, idle, few))
+open_refused meaning a b s t work new NotAShowFile (begun, grants, never, is, _, _) = inr (inr (inl (is, begun.1, grants, inl never)))
+open_refused meaning a b s t work new (Unsound q) (begun, (first, fs, one, less, never, _), is, _, _) = inr (inr (inl (is, begun.1, fs.0, inr (q, first, fs, one, less, never))))
+open_refused meaning a b s t work new (Medium step p f) h = inr (inr (inr h))
+open_refused meaning a b s t work new NotOpen o = absurd o
+open_refused meaning a b s t work new NoEdit o = absurd o
+open_refused meaning a b s t work new LastCounter o = absurd o
+open_refused meaning a b s t work new TooLong o = absurd o
+open_refused meaning a b s t work new TooMany o = absurd o
+open_refused meaning a b s t work new KeyInDraft o = absurd o
+open_refused meaning a b s t work new NoSuchKey o = absurd o
+open_refused meaning a b s t work new DraftFull o = absurd o
+open_refused meaning a b s t work new NoPlace o = absurd o
 
 -- while the medium runs and no edit is open, the file shown is sound and says what is saved
 idle_shows : (m : Meaning) (s : State) (touched : List ℕ) (k : Book) → Keeps m s touched k → Idle s → m.stopped ≡ false
@@ -120,11 +154,6 @@ going_open m n b touched new k first sized sized_b (((_, runs), fs, p, c), sound
     let l = key_later P key (omega (arith, p, fs.least)) in
     ap (λ es. value_in es key) (same (page_of P key) l) ∙ (λ i. value_in (records (c i) (m.shown (page_of (p i) key))) key) ∙ says key)
 
--- a medium that has stopped keeps to the book once it is safe
-stopped_keeps : (m : Meaning) (t : State) (touched : List ℕ) (k : Book) → Safe m k → m.stopped ≡ true → t ≡ Shut → Keeps m t touched k
-stopped_keeps m t touched k safe stop shut =
-    subst (λ u. Keeps m u touched k) (sym shut) (safe, λ runs. absurd cc)
-
 module _ {M : Type 0} (meaning : M → Meaning) (sized : (x : M) → Sized (meaning x)) (a b : M) (s : State) (touched work new : List ℕ) (k : Book)
     (keeps : Keeps (meaning a) s touched k) (begun : Begun (meaning a) s work) where
   -- a refusal by the medium leaves it stopped and safe
@@ -156,36 +185,16 @@ few_keeps m Shut touched k keeps idle few = keeps
 few_keeps m (Open first) touched k (base, rests, _) idle few = absurd (omega (arith, rests.sound.least, rests.sound.there))
 few_keeps m (Editing first) touched k keeps idle few = absurd idle
 
--- what stays as it was
-stays : {M : Type 0} (meaning : M → Meaning) (a b : M) (s t : State) (touched : List ℕ) (k : Book) → b ≡ a → t ≡ s
-    → Keeps (meaning a) s touched k → Keeps (meaning b) t touched k
-stays meaning a b s t touched k is same keeps =
-    subst (λ z. Keeps (meaning z) t touched k) (sym is) (subst (λ u. Keeps (meaning a) u touched k) (sym same) keeps)
-
 -- opening changes nothing of the book, whatever it answers
 pub open_keeps : {M : Type 0} (meaning : M → Meaning) → ((x : M) → Sized (meaning x)) → OpenKeeps meaning
 open_keeps meaning sized a b s t touched work new (Ok o) k keeps (begun, (first, checked, (x, c, settled), is, _, _)) =
     subst (λ u. Keeps (meaning b) u touched k) (sym is)
     (open_opens meaning sized a b s touched work new k keeps begun first x o.cleared checked c settled)
-open_keeps meaning sized a b s t touched work new (Err WorkPage) k keeps (_, is, same, _) = stays meaning a b s t touched k is same keeps
-open_keeps meaning sized a b s t touched work new (Err EditOpen) k keeps (_, _, is, same, _) = stays meaning a b s t touched k is same keeps
-open_keeps meaning sized a b s t touched work new (Err PageCount) k keeps (_, idle, few, is, same, _) =
-    stays meaning a b Shut t touched k is same (few_keeps (meaning a) s touched k keeps idle few)
-open_keeps meaning sized a b s t touched work new (Err NotAShowFile) k keeps (begun, grants, never, _, _, _) =
-    absurd (never (idle_shows (meaning a) s touched k keeps begun.1 grants.1).0.first)
-open_keeps meaning sized a b s t touched work new (Err (Unsound q)) k keeps (begun, (first, (grants, fs, p, c), one, less, never, _), _, _, _) =
-    let sound = (idle_shows (meaning a) s touched k keeps begun.1 grants.1).0 in
-    absurd (never (subst (λ i. Sound i first.pages q ((meaning a).shown q)) (sym c)
-    (subst (λ i. Sound (counter_of ((meaning a).shown 0)) i q ((meaning a).shown q)) (sym p) (sound.pages q one (omega (arith, less, p))))))
-open_keeps meaning sized a b s t touched work new (Err (Medium step p f)) k keeps (begun, stopped, shut) =
-    let r = open_stops meaning sized a b s touched work new k keeps begun (Medium step p f) stopped in
-    stopped_keeps (meaning b) t touched k r.0 r.1 shut
-open_keeps meaning sized a b s t touched work new (Err NotOpen) k keeps o = absurd o
-open_keeps meaning sized a b s t touched work new (Err NoEdit) k keeps o = absurd o
-open_keeps meaning sized a b s t touched work new (Err LastCounter) k keeps o = absurd o
-open_keeps meaning sized a b s t touched work new (Err TooLong) k keeps o = absurd o
-open_keeps meaning sized a b s t touched work new (Err TooMany) k keeps o = absurd o
-open_keeps meaning sized a b s t touched work new (Err KeyInDraft) k keeps o = absurd o
-open_keeps meaning sized a b s t touched work new (Err NoSuchKey) k keeps o = absurd o
-open_keeps meaning sized a b s t touched work new (Err DraftFull) k keeps o = absurd o
-open_keeps meaning sized a b s t touched work new (Err NoPlace) k keeps o = absurd o
+open_keeps meaning sized a b s t touched work new (Err e) k keeps opens = elim (open_refused meaning a b s t work new e opens) [
+  | inl (is, same) ↦ rw (is, same) keeps
+  | inr (inl (is, shut, idle, few)) ↦ rw (is, shut) (few_keeps (meaning a) s touched k keeps idle few)
+  | inr (inr (inl (_, idle, grants, faulty))) ↦
+      absurd (faulty_unsound (meaning a) faulty (idle_shows (meaning a) s touched k keeps idle grants.1).0)
+  | inr (inr (inr (begun, stopped, shut))) ↦
+      let r = open_stops meaning sized a b s touched work new k keeps begun e stopped in rw shut (r.0, λ runs. absurd cc)
+]
