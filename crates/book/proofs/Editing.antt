@@ -75,103 +75,74 @@ pub page_later : (m : Meaning) (first : FirstPage) (base : ℕ → List ℕ) (sa
     → Later first.pages (page_of first.pages key)
 page_later m first base saved key rests = key_later first.pages key (omega (arith, rests.sound.least, rests.pages))
 
--- the key's page of a running medium was changed, and is offered to it as a whole
-module _ (m n : Meaning) (first : FirstPage) (base : ℕ → List ℕ) (saved : Values) (key : ℕ) (new : List ℕ) (entry : Option (List ℕ))
-    (sized : Sized m) (rests : Rests m first base saved) (there : page_of first.pages key < m.pages)
-    (c : Changes first.counter first.pages (page_of first.pages key) (base (page_of first.pages key))
-    (m.shown (page_of first.pages key)) new key entry) where
+-- a change of the key's page, in an edit that keeps to its book, is offered to the medium as a whole page
+module _ (m n : Meaning) (first : FirstPage) (touched : List ℕ) (b : Book) (change : Change) (key : ℕ) (value new : List ℕ)
+    (sized : Sized m) (key-small : key < 2 ^ 32) (short : length value ≤ 200) (grants : Grants m (page_of first.pages key))
+    (done : page_change change key value first.counter (m.shown (page_of first.pages key)) new (Ok tt))
+    (keeps : Keeps m (Editing first) touched b) where
   abbrev q : ℕ
   q = page_of first.pages key
 
   -- it is a later page
   later : Later first.pages q
-  later = page_later m first base saved key rests
+  later = page_later m first keeps.0 b.saved key keeps.1
+
+  -- what it does to the draft
+  pub changes : Changes first.counter first.pages q (keeps.0 q) (m.shown q) new key (entered change value)
+  changes =
+      changed change first.counter first.pages (keeps.0 q) (m.shown q) new key value keeps.2 key-small short ((keeps.4 grants.1).0.drafted q later) done
 
   -- the page with the new one put in is the new one
   whole : patched (m.shown q) 0 new ≡ new
-  whole = patched_whole (m.shown q) new (omega (arith, sized.full q there, c.0.near.long))
+  whole = patched_whole (m.shown q) new (omega (arith, sized.full q grants.0, changes.0.near.long))
 
   -- whatever of it comes down, what is saved rests
-  rests_offered : Gains m n q 0 new → Rests n first base saved
+  rests_offered : Gains m n q 0 new → Rests n first keeps.0 b.saved
   rests_offered g =
-      rests_gains m n first base saved q 0 new g later
-      (λ k l _. subst (λ page. Allowed first.counter (base q) k (word page k)) (sym whole)
-      (near_words first.counter (base q) new c.0.near k l))
-      rests
+      rests_gains m n first keeps.0 b.saved q 0 new g later
+      (λ k l _. rw whole (near_words first.counter (keeps.0 q) new changes.0.near k l)) keeps.1
 
-  module _ (p : Patches m n q 0 new) where
-    -- once it is written, it is shown
-    here : n.shown q ≡ new
-    here = p.here ∙ whole
-
-    -- every page is still one of the edit
-    stands_offered : Stands m first base → Stands n first base
-    stands_offered s = stands_patched m n first base q 0 new p later (rw here c.0) s
-
-    -- no change is shown but on this page and those touched before
-    clean_offered : (ts : List ℕ) → CleanBut m first ts → CleanBut n first (added q ts)
-    clean_offered ts clean r l = elim (cases_eq r q) [
-      | inl e ↦ inr (subst (λ r. Has r (added q ts)) (sym e) (has_added q ts))
-      | inr ne ↦ elim (clean r l) [
-        | inl none ↦ inl (ap (begun_side first.counter) (p.others r ne) ∙ none)
-        | inr h ↦ inr (has_before r q ts h)
-      ]
+  -- once it is written, no change is shown but on this page and those touched before
+  clean_offered : Patches m n q 0 new → CleanBut n first (added q touched)
+  clean_offered p r l = elim (cases_eq r q) [
+    | inl e ↦ inr (rw e (has_added q touched))
+    | inr ne ↦ elim ((keeps.4 grants.1).1 r l) [
+      | inl none ↦ inl (rw (p.others r ne) none)
+      | inr h ↦ inr (has_before r q touched h)
     ]
+  ]
 
-    -- the drafts shown have the key's new value
-    drafts_offered : (v : Values) → Drafts m first v → Drafts n first (with v key entry)
-    drafts_offered v d k = elim (cases_eq (page_of first.pages k) q) [
-      | inl e ↦
-          ap (λ r. value_in (draft_records first.counter (n.shown r)) k) e
-          ∙ ap (λ page. value_in (draft_records first.counter page) k) here
-          ∙ c.2 k
-          ∙ ap (cond (eqb k key) entry)
-          (ap (λ r. value_in (draft_records first.counter (m.shown r)) k) (sym e) ∙ d k)
-      | inr ne ↦
-          ap (λ page. value_in (draft_records first.counter page) k) (p.others (page_of first.pages k) ne)
-          ∙ d k
-          ∙ sym (cond-false (eqb k key) entry (v k) (ne_eqb k key (λ e. ne (ap (page_of first.pages) e))))
-    ]
-
-    -- all that is shown while the medium runs
-    shown_offered : (ts : List ℕ) (v : Values) → Stands m first base × CleanBut m first ts × Drafts m first v
-        → Stands n first base × CleanBut n first (added q ts) × Drafts n first (with v key entry)
-    shown_offered ts v h = (stands_offered h.0, clean_offered ts h.1, drafts_offered v h.2)
-
--- a change of the key's page, in an edit that keeps to its book, is offered to the medium
-module _ (m n : Meaning) (first : FirstPage) (touched : List ℕ) (b : Book) (change : Change) (key : ℕ) (value new : List ℕ)
-    (sized : Sized m) (key-small : key < 2 ^ 32) (short : length value ≤ 200) (grants : Grants m (page_of first.pages key))
-    (done : page_change change key value first.counter (m.shown (page_of first.pages key)) new (Ok tt))
-    (keeps : Keeps m (Editing first) touched b) where
-  abbrev page : ℕ
-  page = page_of first.pages key
-
-  -- what it does to the draft
-  pub changes : Changes first.counter first.pages page (keeps.0 page) (m.shown page) new key (entered change value)
-  changes =
-      changed change first.counter first.pages (keeps.0 page) (m.shown page) new key value keeps.2 key-small short
-      ((keeps.4 grants.1).0.drafted page (page_later m first keeps.0 b.saved key keeps.1)) done
-
-  -- what is saved rests, whatever of the page comes down
-  rests_now : Gains m n page 0 new → Rests n first keeps.0 b.saved
-  rests_now = rests_offered m n first keeps.0 b.saved key new (entered change value) sized keeps.1 grants.0 changes
+  -- and the drafts shown have the key's new value
+  drafts_offered : Patches m n q 0 new → Drafts n first (with b.draft key (entered change value))
+  drafts_offered p k = elim (cases_eq (page_of first.pages k) q) [
+    | inl e ↦
+        rw (e, p.here, whole)
+        (changes.2 k ∙ ap (cond (eqb k key) (entered change value))
+        (ap (λ r. value_in (draft_records first.counter (m.shown r)) k) (sym e) ∙ (keeps.4 grants.1).2 k))
+    | inr ne ↦
+        rw (p.others (page_of first.pages k) ne)
+        ((keeps.4 grants.1).2 k ∙ sym (cond-false (eqb k key) (entered change value) (b.draft k) (ne_eqb k key (λ e. ne (ap (page_of first.pages) e)))))
+  ]
 
   -- the medium takes it
-  taken : Wrote m n page 0 new (Ok tt) → Keeps n (Editing first) (added page touched) (edited b key (entered change value) (Ok tt))
+  taken : Wrote m n q 0 new (Ok tt) → Keeps n (Editing first) (added q touched) (edited b key (entered change value) (Ok tt))
   taken w = (
     keeps.0,
-    rests_now w.3.gains,
+    rests_offered w.3.gains,
     keeps.2,
-    all_added (Later first.pages) page touched (page_later m first keeps.0 b.saved key keeps.1) keeps.3,
-    λ _. shown_offered m n first keeps.0 b.saved key new (entered change value) sized keeps.1 grants.0 changes w.3
-        touched b.draft (keeps.4 grants.1),
+    all_added (Later first.pages) q touched later keeps.3,
+    λ _. (
+      stands_patched m n first keeps.0 q 0 new w.3 later (rw (w.3.here, whole) changes.0) (keeps.4 grants.1).0,
+      clean_offered w.3,
+      drafts_offered w.3,
+    ),
   )
 
   -- the medium refuses it: not for a bad run, and so it has stopped
-  refused : (y : MediumFault) → Wrote m n page 0 new (Err y) → Keeps n (Editing first) touched b
-  refused BadRun w = absurd (true≢false (sym (good_whole m.pages page (length new) grants.0 changes.0.near.long) ∙ w.0))
+  refused : (y : MediumFault) → Wrote m n q 0 new (Err y) → Keeps n (Editing first) touched b
+  refused BadRun w = absurd (true≢false (sym (good_whole m.pages q (length new) grants.0 changes.0.near.long) ∙ w.0))
   refused Stopped w =
-      (keeps.0, rests_now w.2, keeps.2, keeps.3, λ runs. absurd (true≢false (sym w.1 ∙ runs)))
+      (keeps.0, rests_offered w.2, keeps.2, keeps.3, λ runs. absurd cc)
 
 module _ {M : Type 0} (meaning : M → Meaning) (sized : (x : M) → Sized (meaning x)) where
   -- once the page of the key is read: it is changed and written, or refused

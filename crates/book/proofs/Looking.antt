@@ -74,10 +74,6 @@ page_says m first base saved key rests stands =
       ap (λ es. value_in es key) (near_records first.counter first.pages q (base q) (m.shown q) d.base_fits d.near) ∙ rests.said key,
     )
 
--- an opened state tells one first page
-open_same : (f g : FirstPage) → opened (Open f) ≡ Some g → f ≡ g
-open_same f g e = cc
-
 -- a page of the file can be read while the medium runs
 not_denied : (m : Meaning) (q : ℕ) (f : MediumFault) → q < m.pages → m.stopped ≡ false → Denies m q f → ⊥
 not_denied m q BadRun l runs none = omega arith
@@ -85,38 +81,26 @@ not_denied m q Stopped l runs (_, stop) = cc
 
 module _ (m : Meaning) (first : FirstPage) (base : ℕ → List ℕ) (saved : Values) (key : ℕ) (work new b : List ℕ)
     (rests : Rests m first base saved) (stands : Stands m first base) (runs : m.stopped ≡ false) (long : length work ≡ 1024)
-    (is : saved key ≡ Some b) where
-  -- a look that finds a record finds the value
-  found_says : (g : FirstPage) (e : Entry) (p : Place) → first ≡ g → new ≡ m.shown (page_of g.pages key)
-      → saved_on g key (m.shown (page_of g.pages key)) ≡ Some e → p.at ≡ e.slot.offset + 4 → p.length ≡ e.slot.length - 4
-      → value_at new p ≡ b
-  found_says g e p same shows found from size =
-      let q : ℕ = page_of g.pages key in
-      let page = page_says m g base saved key (subst (λ f. Rests m f base saved) same rests) (subst (λ f. Stands m f base) same stands) in
-      let value : Some e.value ≡ Some b = sym (ap (option_map (λ e. e.value)) found) ∙ page.2 ∙ is in
-      let value-is : e.value ≡ b = cc in
-      ap (λ x. value_at x p) shows
-      ∙ found_value g.counter g.pages q (m.shown q) key e p page.0 page.1 found from size ∙ value-is
-
-  -- no look is told that there is none
-  found_some : (g : FirstPage) → first ≡ g → saved_on g key (m.shown (page_of g.pages key)) ≡ None → ⊥
-  found_some g same none =
-      let page = page_says m g base saved key (subst (λ f. Rests m f base saved) same rests) (subst (λ f. Stands m f base) same stands) in
-      let value : None ≡ Some b = sym (ap (option_map (λ e. e.value)) none) ∙ page.2 ∙ is in
-      cc
-
-  -- nor denied the page
-  found_there : (g : FirstPage) (f : MediumFault) → first ≡ g → Denies m (page_of g.pages key) f → ⊥
-  found_there g f same =
-      let r = subst (λ f. Rests m f base saved) same rests in
-      not_denied m (page_of g.pages key) f
-      (omega (arith, (key_later g.pages key (omega (arith, r.sound.least, r.pages))).1, r.pages, r.sound.there)) runs
+    (is_saved : saved key ≡ Some b) where
+  -- the page that a look reads
+  looked : (g : FirstPage) → opened (Open first) ≡ Some g → (length (m.shown (page_of g.pages key)) ≡ 1024)
+      × Sound g.counter g.pages (page_of g.pages key) (m.shown (page_of g.pages key))
+      × (value_in (records g.counter (m.shown (page_of g.pages key))) key ≡ Some b) × (page_of g.pages key < m.pages)
+  looked g same =
+      let is : first ≡ g = cc in
+      let page = page_says m first base saved key rests stands in
+      let later = key_later first.pages key (omega (arith, rests.sound.least, rests.pages)) in
+      rw (← is) (page.0, page.1, page.2 ∙ is_saved, omega (arith, later.1, rests.pages, rests.sound.there))
 
   -- a look at a key that has a value finds it
   pub look_says : (x : Result Place Refusal) → Looks m (Open first) key work new x → (p : Place) × (x ≡ Ok p) × (value_at new p ≡ b)
   look_says (Ok p) (g, (_, same), _, shows, (e, found, from, size)) =
-      (p, refl, found_says g e p (open_same first g same) shows found from size)
+      let page = looked g same in
+      let value : Some e.value ≡ Some b = sym (ap (option_map (λ e. e.value)) found) ∙ page.2 in
+      (p, refl, rw shows (found_value g.counter g.pages (page_of g.pages key) _ key e p page.0 page.1 found from size ∙ cc))
   look_says (Err x) (inl (inl (_, short), _)) = absurd (short long)
   look_says (Err x) (inl (inr (_, _, shut), _)) = absurd cc
-  look_says (Err x) (inr (g, (_, same), inl ((f, _, denied), _))) = absurd (found_there g f (open_same first g same) denied)
-  look_says (Err x) (inr (g, (_, same), inr (_, _, _, none))) = absurd (found_some g (open_same first g same) none)
+  look_says (Err x) (inr (g, (_, same), inl ((f, _, denied), _))) =
+      absurd (not_denied m (page_of g.pages key) f (looked g same).3 runs denied)
+  look_says (Err x) (inr (g, (_, same), inr (_, _, _, none))) =
+      let value : None ≡ Some b = sym (ap (option_map (λ e. e.value)) none) ∙ (looked g same).2 in absurd cc
