@@ -62,6 +62,10 @@ has_later pages q l = has_counting 1 (pages - 1) q l.0 (omega (arith, l.0, l.1))
 pub later_has : (pages q : ℕ) → Has q (later_pages pages) → Later pages q
 later_has pages q h = let r = counting_has 1 (pages - 1) q h in (r.0, omega (arith, r.0, r.1))
 
+-- the pages to be cleared by their places
+pub later_at : (pages i : ℕ) → i < length (later_pages pages) → Later pages (get_or (later_pages pages) i 0)
+later_at pages i l = grind (arith, length-range_with_len, get_or-range_with_len)
+
 -- what is among the first pages is among all
 take_has : (i : ℕ) (qs : List ℕ) (q : ℕ) → Has q (take i qs) → Has q qs
 take_has zero qs q h = absurd h
@@ -72,117 +76,83 @@ take_has (suc i) (p ∷ qs) q h = search (rules, take_has i qs)
 pub spread_on : (counter pages : ℕ) (m n x : Meaning) → Spread counter pages m n → NoGain n x → Spread counter pages m x
 spread_on counter pages m n x s g = record { count = g.pages ∙ s.count; within = λ q k w p. s.within q k w (g.within q k w p) }
 
--- the file m, whose later pages are sound
-module _ (counter pages : ℕ) (m : Meaning) (there : pages ≤ m.pages) (sized : Sized m)
-    (sound : (q : ℕ) → 1 ≤ q → q < pages → Sound counter pages q (m.shown q)) where
-  -- at a cleared page an edit can begin
-  pub cleared_base : (q : ℕ) → Later pages q → Base counter pages q (cleared counter (m.shown q))
-  cleared_base q l = (clears counter pages q (m.shown q) (sized.full q (omega (arith, l.1))) (sound q l.0 l.1)).1
+-- at a sound page that is cleared an edit can begin
+pub cleared_base : (counter pages : ℕ) (m : Meaning) → pages ≤ m.pages → Sized m
+    → ((q : ℕ) → 1 ≤ q → q < pages → Sound counter pages q (m.shown q))
+    → (q : ℕ) → Later pages q → Base counter pages q (cleared counter (m.shown q))
+cleared_base counter pages m there sized sound q l =
+    (clears counter pages q (m.shown q) (sized.full q (omega (arith, l.1, there))) (sound q l.0 l.1)).1
 
-  -- a page at which a header is begun is not cleared yet
-  still : (Left : ℕ → Type 0) (n : Meaning) (q : ℕ) (s : Side) → Going counter pages Left m n → Later pages q
-      → begun_side counter (n.shown q) ≡ Some s → n.shown q ≡ m.shown q
-  still Left n q s g l e = elim (g.each q l) [
-    | inl is ↦ let none = base_none counter pages q _ (cleared_base q l) in
-        let some : begun_side counter (cleared counter (m.shown q)) ≡ Some s = subst (λ p. begun_side counter p ≡ Some s) is e in
-        absurd cc
-    | inr (is, _) ↦ is
+-- clearing pages, on from a file m whose later pages are sound
+module _ {M : Type 0} (meaning : M → Meaning) (counter pages : ℕ) (m : Meaning) (there : pages ≤ m.pages) (sized : Sized m)
+    (sound : (q : ℕ) → 1 ≤ q → q < pages → Sound counter pages q (m.shown q)) where
+  -- a page at which a header is begun is not cleared yet, and with its number overwritten it is
+  written : (Left : ℕ → Type 0) (x : M) (q : ℕ) (s : Side) → Going counter pages Left m (meaning x) → Later pages q
+      → begun_side counter ((meaning x).shown q) ≡ Some s → patched ((meaning x).shown q) (start s) zeros ≡ cleared counter (m.shown q)
+  written Left x q s g l e = elim (g.each q l) [
+    | inl is ↦ let none = base_none counter pages q _ (cleared_base counter pages m there sized sound q l) in
+        let some : begun_side counter (cleared counter (m.shown q)) ≡ Some s = subst (λ p. begun_side counter p ≡ Some s) is e in absurd cc
+    | inr (is, _) ↦ sym (ap (cleared_on ((meaning x).shown q)) e) ∙ ap (cleared counter) is
   ]
 
-  -- with its number overwritten it is the cleared one
-  written : (Left : ℕ → Type 0) (n : Meaning) (q : ℕ) (s : Side) → Going counter pages Left m n → Later pages q
-      → begun_side counter (n.shown q) ≡ Some s → patched (n.shown q) (start s) zeros ≡ cleared counter (m.shown q)
-  written Left n q s g l e =
-      let is = still Left n q s g l e in
-      sym (ap (cleared_on (n.shown q)) e) ∙ ap (cleared counter) is
-
   -- a write of its number, done or refused, adds no words but those of the cleared page
-  pub spread_gains : (Left : ℕ → Type 0) (n x : Meaning) (q : ℕ) (s : Side) → Going counter pages Left m n → Later pages q
-      → begun_side counter (n.shown q) ≡ Some s → Gains n x q (start s) zeros → Spread counter pages m x
-  spread_gains Left n x q s g l e gains = record {
+  spread_gains : (Left : ℕ → Type 0) (x y : M) (q : ℕ) (s : Side) → Going counter pages Left m (meaning x) → Later pages q
+      → begun_side counter ((meaning x).shown q) ≡ Some s → Gains (meaning x) (meaning y) q (start s) zeros → Spread counter pages m (meaning y)
+  spread_gains Left x y q s g l e gains = record {
     count = gains.pages ∙ g.spread.count;
     within = λ r k w p. elim (gains.within r k w p) [
       | inl before ↦ g.spread.within r k w before
-      | inr (at, _, is) ↦
-          inr (
-            subst (Later pages) (sym at) l,
-            is ∙ ap (λ page. word page k) (written Left n q s g l e ∙ ap (λ r. cleared counter (m.shown r)) (sym at)),
-          )
+      | inr (at, _, is) ↦ rw at (inr (l, is ∙ ap (λ page. word page k) (written Left x q s g l e)))
     ];
   }
 
-  -- a page with nothing to clear is done
-  going_past : (Left Rest : ℕ → Type 0) (n : Meaning) (q : ℕ) → Going counter pages Left m n → ((r : ℕ) → Left r → (r ≡ q) ⊎ Rest r)
-      → begun_side counter (n.shown q) ≡ None → Going counter pages Rest m n
-  going_past Left Rest n q g next e = record {
+  -- one page cleared: it had nothing to clear, or its number is overwritten
+  going_page : (Left Rest : ℕ → Type 0) (x y : M) (q : ℕ) (t : Bool) → Going counter pages Left m (meaning x) → Later pages q
+      → ((r : ℕ) → Left r → (r ≡ q) ⊎ Rest r) → ClearsPage meaning counter q x y (Ok t) → Going counter pages Rest m (meaning y)
+  going_page Left Rest x y q false g l next (_, none, same) = rw same (record {
     spread = g.spread;
     zero = g.zero;
-    each = λ r l. elim (g.each r l) [
+    each = λ r k. elim (g.each r k) [
       | inl is ↦ inl is
       | inr (is, left) ↦ elim (next r left) [
-        | inl at ↦ inl (is ∙ sym (cleared_none counter (m.shown r)
-            (subst (λ page. begun_side counter page ≡ None) (ap n.shown (sym at) ∙ is) e)))
+        | inl at ↦ inl (is ∙ sym (cleared_none counter (m.shown r) (rw (← is, at) none)))
         | inr rest ↦ inr (is, rest)
       ]
     ];
-  }
-
-  -- so is a page whose number is overwritten
-  going_written : (Left Rest : ℕ → Type 0) (n x : Meaning) (q : ℕ) (s : Side) → Going counter pages Left m n → Later pages q
-      → ((r : ℕ) → Left r → (r ≡ q) ⊎ Rest r) → begun_side counter (n.shown q) ≡ Some s → Patches n x q (start s) zeros
-      → Going counter pages Rest m x
-  going_written Left Rest n x q s g l next e p = record {
-    spread = spread_gains Left n x q s g l e p.gains;
+  })
+  going_page Left Rest x y q true g l next (_, (s, some, (_, _, _, p))) = record {
+    spread = spread_gains Left x y q s g l some p.gains;
     zero = p.others 0 (λ z. omega (arith, l.0)) ∙ g.zero;
     each = λ r k. elim (cases_eq r q) [
-      | inl at ↦ inl (ap x.shown at ∙ p.here ∙ written Left n q s g l e ∙ ap (λ r. cleared counter (m.shown r)) (sym at))
+      | inl at ↦ inl (rw (at, p.here) (written Left x q s g l some))
       | inr never ↦ elim (g.each r k) [
         | inl is ↦ inl (p.others r never ∙ is)
-        | inr (is, left) ↦ elim (next r left) [
-          | inl at ↦ absurd (never at)
-          | inr rest ↦ inr (p.others r never ∙ is, rest)
-        ]
+        | inr (is, left) ↦ elim (next r left) [ inl at ↦ absurd (never at) | inr rest ↦ inr (p.others r never ∙ is, rest) ]
       ]
     ];
   }
 
--- the same of the values of a medium
-module _ {M : Type 0} (meaning : M → Meaning) (counter pages : ℕ) (m : Meaning) (there : pages ≤ m.pages) (sized : Sized m)
-    (sound : (q : ℕ) → 1 ≤ q → q < pages → Sound counter pages q (m.shown q)) where
-  -- one page cleared
-  going_page : (Left Rest : ℕ → Type 0) (x y : M) (q : ℕ) (t : Bool) → Going counter pages Left m (meaning x) → Later pages q
-      → ((r : ℕ) → Left r → (r ≡ q) ⊎ Rest r) → ClearsPage meaning counter q x y (Ok t) → Going counter pages Rest m (meaning y)
-  going_page Left Rest x y q false g l next (_, none, is) =
-      subst (λ z. Going counter pages Rest m (meaning z)) (sym is)
-      (going_past counter pages m there sized sound Left Rest (meaning x) q g next none)
-  going_page Left Rest x y q true g l next (_, (s, some, (_, _, _, p))) =
-      going_written counter pages m there sized sound Left Rest (meaning x) (meaning y) q s g l next some p
-
   -- pages cleared one after the other
-  pub going_clears : (Rest : ℕ → Type 0) (qs : List ℕ) (x y : M) (n : ℕ) → ((q : ℕ) → Has q qs → Later pages q)
+  going_clears : (Rest : ℕ → Type 0) (qs : List ℕ) (x y : M) (n : ℕ) → ((q : ℕ) → Has q qs → Later pages q)
       → Going counter pages (λ q. Has q qs ⊎ Rest q) m (meaning x) → Clears meaning counter qs x y n → Going counter pages Rest m (meaning y)
-  going_clears Rest [] x y n later g (is, _) =
-      subst (λ z. Going counter pages Rest m (meaning z)) (sym is) (record {
-        spread = g.spread;
-        zero = g.zero;
-        each = λ q l. elim (g.each q l) [ inl e ↦ inl e | inr (e, left) ↦ inr (e, ⊎_elim (λ (z : ⊥). absurd z) (λ r. r) left) ];
-      })
+  going_clears Rest [] x y n later g (is, _) = rw is (record {
+    spread = g.spread;
+    zero = g.zero;
+    each = λ q l. elim (g.each q l) [ inl e ↦ inl e | inr (e, inr r) ↦ inr (e, r) | inr (e, inl z) ↦ absurd z ];
+  })
   going_clears Rest (q ∷ qs) x y n later g (z, t, k, page, rest, _) =
       going_clears Rest qs z y k (λ r h. later r (inr h))
-      (going_page (λ r. Has r (q ∷ qs) ⊎ Rest r) (λ r. Has r qs ⊎ Rest r) x z q t g (later q (inl refl))
-      (λ r left. elim left [ inl h ↦ elim h [ inl e ↦ inl e | inr h ↦ inr (inl h) ] | inr h ↦ inr (inr h) ]) page)
+      (going_page (λ r. Has r (q ∷ qs) ⊎ Rest r) (λ r. Has r qs ⊎ Rest r) x z q t g (later q (inl refl)) (λ r left. search rules) page)
       rest
 
   -- a page refused: the medium has stopped
-  pub stopped_page : (Left : ℕ → Type 0) (x y : M) (q : ℕ) (e : Refusal) → Going counter pages Left m (meaning x) → Later pages q
+  stopped_page : (Left : ℕ → Type 0) (x y : M) (q : ℕ) (e : Refusal) → Going counter pages Left m (meaning x) → Later pages q
       → ClearsPage meaning counter q x y (Err e) → ((meaning y).stopped ≡ true) × Spread counter pages m (meaning y)
   stopped_page Left x y q e g l (inl ((BadRun, _, none), is)) = absurd (omega (arith, l.1, none, g.spread.count))
-  stopped_page Left x y q e g l (inl ((Stopped, _, (_, stop)), is)) =
-      subst (λ z. ((meaning z).stopped ≡ true) × Spread counter pages m (meaning z)) (sym is) (stop, g.spread)
+  stopped_page Left x y q e g l (inl ((Stopped, _, (_, stop)), is)) = rw is (stop, g.spread)
   stopped_page Left x y q e g l (inr (s, BadRun, some, _, (bad, _))) =
       absurd (number_bad (meaning x).pages q s (omega (arith, l.1, g.spread.count)) bad)
-  stopped_page Left x y q e g l (inr (s, Stopped, some, _, (_, stop, gains, _))) =
-      (stop, spread_gains counter pages m there sized sound Left (meaning x) (meaning y) q s g l some gains)
+  stopped_page Left x y q e g l (inr (s, Stopped, some, _, (_, stop, gains, _))) = (stop, spread_gains Left x y q s g l some gains)
 
 -- nothing is cleared yet
 going_start : (counter pages : ℕ) (Left : ℕ → Type 0) (m : Meaning) → ((q : ℕ) → Later pages q → Left q) → Going counter pages Left m m
@@ -205,9 +175,7 @@ module _ {M : Type 0} (meaning : M → Meaning) (counter pages : ℕ) (a : M) (t
   pub clears_until : (b : M) (e : Refusal) → ClearsUntil meaning counter (later_pages pages) a b e
       → ((meaning b).stopped ≡ true) × Spread counter pages (meaning a) (meaning b)
   clears_until b e (i, less, (x, (n, c), page)) =
-      let count : length (later_pages pages) ≡ pages - 1 = length-range_with_len 1 (pages - 1) in
-      let at : get_or (later_pages pages) i 0 ≡ 1 + i = get_or-range_with_len 1 (pages - 1) i 0 (omega arith) in
       stopped_page meaning counter pages (meaning a) there sized sound (λ _. Unit {0}) x b (get_or (later_pages pages) i 0) e
       (going_clears meaning counter pages (meaning a) there sized sound (λ _. Unit {0}) (take i (later_pages pages)) a x n
       (λ q h. later_has pages q (take_has i (later_pages pages) q h)) (going_start counter pages _ (meaning a) (λ q l. inr tt)) c)
-      (omega arith, omega arith) page
+      (later_at pages i less) page

@@ -42,6 +42,7 @@ use Rattle.book.specs.Keeps.{Keeps, Later, Rests}
 use Rattle.book.specs.Theorem.{AsStopped, Kept, fed}
 use Rattle.book.specs.Uses.{Answer, Edited, Gives, Makes, Moment, Ran, Reads, Slipless, told, told_of}
 use Rattle.book.proofs.Abandoning.{within}
+use Rattle.book.proofs.Clearing.{later_at}
 use Rattle.book.proofs.Editing.{changes, good_whole, page_later}
 use Rattle.book.proofs.Making.{makes_keeps}
 use Rattle.book.proofs.Runs.{number_bad}
@@ -84,11 +85,6 @@ module _ {M : Type 0} (meaning : M → Meaning) (counter : ℕ) where
       → ClearsUntil meaning counter qs a b e → Stops e
   until_stops qs a b e there (i, l, (x, (n, c), page)) =
       page_stops (get_or qs i 0) x b e (subst (λ p. get_or qs i 0 < p) (sym (clears_count (take i qs) a x n c)) (there i l)) page
-
--- the pages after the first are later pages
-later_at : (pages i : ℕ) → i < length (later_pages pages) → Later pages (get_or (later_pages pages) i 0)
-later_at pages i l =
-    grind (arith, length-range_with_len, get_or-range_with_len)
 
 -- what holds of all holds of each
 all_at : (P : ℕ → Type 0) (qs : List ℕ) (i : ℕ) → AllByRecursion P qs → i < length qs → P (get_or qs i 0)
