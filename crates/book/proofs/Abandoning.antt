@@ -85,7 +85,7 @@ module _ (m : Meaning) (first : FirstPage) (base : ℕ → List ℕ) (v : Values
 page_leaves : {M : Type 0} (meaning : M → Meaning) (first : FirstPage) (base : ℕ → List ℕ) (v : Values) (q : ℕ) (qs : List ℕ) (a b : M) (t : Bool)
     → Leaving (meaning a) first base v (q ∷ qs) → ClearsPage meaning first.counter q a b (Ok t) → Leaving (meaning b) first base v qs
 page_leaves meaning first base v q qs a b false x (grants, none, is) =
-    subst (λ b. Leaving (meaning b) first base v qs) (sym is)
+    rw is
     (record { rests = x.rests; later = x.later.1; runs = λ r. ((x.runs r).0, unnamed (meaning a) first base v q qs none (x.runs r).1) })
 page_leaves meaning first base v q qs a b true x (grants, (s, some, wrote)) =
     leaves (meaning a) first base v (meaning b) q s x.later.0 some qs grants.1 x wrote
@@ -96,14 +96,14 @@ page_stops : {M : Type 0} (meaning : M → Meaning) (first : FirstPage) (base : 
     → ClearsPage meaning first.counter q a b (Err e) → Rests (meaning b) first base v × ((meaning b).stopped ≡ true)
 page_stops meaning first base v q a b e rests runs l (inl ((BadRun, _, denied), is)) = absurd (omega (arith, denied, within (meaning a) first base v q rests l))
 page_stops meaning first base v q a b e rests runs l (inl ((Stopped, _, denied), is)) =
-    subst (λ b. Rests (meaning b) first base v × ((meaning b).stopped ≡ true)) (sym is) (rests, denied.1)
+    rw is (rests, denied.1)
 page_stops meaning first base v q a b e rests runs l (inr (s, f, some, _, wrote)) =
     stops (meaning a) first base v (meaning b) q s l some f rests runs wrote
 
 -- page after page
 pages_leave : {M : Type 0} (meaning : M → Meaning) (first : FirstPage) (base : ℕ → List ℕ) (v : Values) (qs : List ℕ) (a b : M) (n : ℕ)
     → Leaving (meaning a) first base v qs → Clears meaning first.counter qs a b n → Leaving (meaning b) first base v []
-pages_leave meaning first base v [] a b n x (is, _) = subst (λ b. Leaving (meaning b) first base v []) (sym is) x
+pages_leave meaning first base v [] a b n x (is, _) = rw is x
 pages_leave meaning first base v (q ∷ qs) a b n x (y, t, k, page, rest, _) =
     pages_leave meaning first base v qs y b k (page_leaves meaning first base v q qs a y t x page) rest
 
@@ -130,15 +130,15 @@ left m first touched k base x = (base, x.rests, x.runs)
 
 pub abandon_keeps : {M : Type 0} (meaning : M → Meaning) → ((x : M) → Sized (meaning x)) → AbandonKeeps meaning
 abandon_keeps meaning sized a b s t e number (Ok _) k keeps (first, (is, _), then, (n, clears)) =
-    subst (λ t. Keeps (meaning b) t (touched_by e) k) (sym then)
+    rw then
     (left (meaning b) first (touched_by e) k keeps_leaving.0
     (pages_leave meaning first keeps_leaving.0 k.saved (touched_by e) a b n keeps_leaving.1 clears)) where
       keeps_leaving : (base : ℕ → List ℕ) × Leaving (meaning a) first base k.saved (touched_by e)
       keeps_leaving = leaving (meaning a) first (touched_by e) k (subst (λ s. Keeps (meaning a) s (touched_by e) k) is keeps)
 abandon_keeps meaning sized a b s t e number (Err x) k keeps (inl (_, _, is, then)) =
-    subst (λ t. Keeps (meaning b) t (touched_by e) k) (sym then) (subst (λ b. Keeps (meaning b) s (touched_by e) k) (sym is) keeps)
+    rw (then, is) keeps
 abandon_keeps meaning sized a b s t e number (Err x) k keeps (inr (first, (is, _), then, (i, l, (y, (n, some), last)))) =
     let z = leaving (meaning a) first (touched_by e) k (subst (λ s. Keeps (meaning a) s (touched_by e) k) is keeps) in
     let over = pages_stop meaning first z.0 k.saved (touched_by e) i a y b n x z.1 l some last in
-    subst (λ t. Keeps (meaning b) t (touched_by e) k) (sym then)
-    (rests_safe (meaning b) first z.0 k over.0, λ runs. absurd (both_ways (meaning b).stopped runs over.1))
+    rw then
+    (rests_safe (meaning b) first z.0 k over.0, λ runs. absurd cc)

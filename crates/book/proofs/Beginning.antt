@@ -36,12 +36,12 @@ begins_edit m first touched ts k fits none (base, rests, runs) = (
   base,
   rests,
   fits,
-  subst (AllByRecursion (Later first.pages)) (sym none) tt,
+  rw none tt,
   λ going.
       let now = runs going in
       let later : (key : ℕ) → Later first.pages (page_of first.pages key) = λ key. key_later first.pages key (omega (arith, rests.sound.least, rests.pages)) in (
         now.0,
-        subst (CleanBut m first) (sym none) now.1,
+        rw none now.1,
         λ key.
             ap (λ es. value_in es key)
             (unbegun_draft first.counter first.pages (page_of first.pages key) (base (page_of first.pages key)) (m.shown (page_of first.pages key))
@@ -52,7 +52,7 @@ begins_edit m first touched ts k fits none (base, rests, runs) = (
 
 pub begin_keeps : {M : Type 0} (meaning : M → Meaning) → ((x : M) → Sized (meaning x)) → BeginKeeps meaning
 begin_keeps meaning sized a s t e f (Ok slip) k keeps (first, is, fits, number, then, changes, none) =
-    subst (λ t. Keeps (meaning a) t (touched_by f) (begun k (Ok slip))) (sym then)
+    rw then
     (begins_edit (meaning a) first (touched_by e) (touched_by f) k fits none (subst (λ s. Keeps (meaning a) s (touched_by e) k) is keeps))
 begin_keeps meaning sized a s t e f (Err x) k keeps begins =
     let same : (t ≡ s) × (f ≡ e) = search rules in

@@ -23,6 +23,7 @@ use Rattle.store.specs.Looks.{Looks, opened, saved_on, value_at}
 use Rattle.book.specs.Books.{Values}
 use Rattle.book.specs.Keeps.{Later, Rests, Stands}
 use Rattle.book.proofs.Ranges.{key_later}
+use Rattle.book.proofs.Resting.{drafted_reads}
 
 -- the record found for a key is that of one of the slots
 keyed_slot : (page : List ℕ) (key : ℕ) (ss : List Slot) (e : Entry) → keyed key (map (entry_of page) ss) ≡ Some e
@@ -68,10 +69,11 @@ page_says : (m : Meaning) (first : FirstPage) (base : ℕ → List ℕ) (saved :
 page_says m first base saved key rests stands =
     let q : ℕ = page_of first.pages key in
     let l : Later first.pages q = key_later first.pages key (omega (arith, rests.sound.least, rests.pages)) in
-    let d = stands.drafted q l in (
+    let d = stands.drafted q l in
+    let reads = drafted_reads first.counter first.pages q (base q) (m.shown q) d in (
       d.near.long,
-      near_sound first.counter first.pages q (base q) (m.shown q) d.base_fits d.near,
-      ap (λ es. value_in es key) (near_records first.counter first.pages q (base q) (m.shown q) d.base_fits d.near) ∙ rests.said key,
+      reads.0,
+      ap (λ es. value_in es key) reads.1 ∙ rests.said key,
     )
 
 -- a page of the file can be read while the medium runs

@@ -28,7 +28,7 @@ use Rattle.book.proofs.Steps.{OpenKeeps}
 use Rattle.book.proofs.Clearing.{Going, Spread, base_none, cleared_base, cleared_none, clears_all, clears_until, spread_on}
 use Rattle.book.proofs.Cutting.{file_says, rests_safe, survives}
 use Rattle.book.proofs.Ranges.{key_later}
-use Rattle.book.proofs.Resting.{rests_spread}
+use Rattle.book.proofs.Resting.{drafted_reads, rests_spread}
 use Rattle.book.proofs.SavedPages.{settled_keeps}
 
 -- what an opening found is not sound: the first page, or a later one
@@ -72,13 +72,8 @@ idle_shows m (Editing first) touched k keeps idle runs = absurd idle
 idle_shows m (Open first) touched k (base, rests, shows) idle runs =
     let stands = (shows runs).0 in
     file_says (shown_file m) first.pages first.counter base k.saved
-    (subst (FirstSound m.pages) (sym stands.zero) rests.sound)
-    (ap pages_of stands.zero ∙ rests.pages) (ap counter_of stands.zero ∙ rests.counter)
-    (λ q l. let d = stands.drafted q l in (
-      near_sound first.counter first.pages q (base q) (m.shown q) d.base_fits d.near,
-      near_records first.counter first.pages q (base q) (m.shown q) d.base_fits d.near,
-    ))
-    rests.said
+    (rw stands.zero rests.sound) (ap pages_of stands.zero ∙ rests.pages) (ap counter_of stands.zero ∙ rests.counter)
+    (λ q l. drafted_reads first.counter first.pages q (base q) (m.shown q) (stands.drafted q l)) rests.said
 
 -- clearing an opened file leaves what is saved resting
 spread_rests : (m n : Meaning) (first : FirstPage) (base : ℕ → List ℕ) (v : Values) → Rests m first base v → Stands m first base
@@ -105,7 +100,7 @@ spread_found m n v sized found s f c =
       | inr (later, _) ↦ absurd (omega (arith, later.0))
     ]) in
     file_says f pages counter m.shown v
-    (subst (FirstSound f.count) (sym zero) (subst (λ count. FirstSound count (m.shown 0)) (sym (c.count ∙ s.count)) first))
+    (rw (zero, c.count, s.count) first)
     (ap pages_of zero) (ap counter_of zero)
     (λ q l. (clears counter pages q (m.shown q) (sized.full q (there q l.1)) (found.sound.pages q l.0 l.1)).0
     (f.page q) (c.sized q (within q l.1))
@@ -119,18 +114,14 @@ spread_found m n v sized found s f c =
 spread_safe : (m n : Meaning) (s : State) (touched : List ℕ) (k : Book) (first : FirstPage) → Sized m → Keeps m s touched k → Idle s → First m first
     → Spread first.counter first.pages m n → Safe n k
 spread_safe m n Shut touched k first sized (_, found) idle ((_, runs), _, p, c) s =
-    let s' : Spread (counter_of (m.shown 0)) (pages_of (m.shown 0)) m n =
-    subst (λ i. Spread (counter_of (m.shown 0)) i m n) p (subst (λ i. Spread i first.pages m n) c s) in
-    λ f cut. let r = spread_found m n k.saved sized (found runs) s' f cut in (r.0, inl r.1)
+    λ f cut. let r = spread_found m n k.saved sized (found runs) (rw (c, p) at s) f cut in (r.0, inl r.1)
 spread_safe m n (Editing _) touched k first sized keeps idle f s = absurd idle
 spread_safe m n (Open old) touched k first sized (base, rests, shows) idle ((_, runs), _, p, c) s =
     let stands = (shows runs).0 in
     let clean = (shows runs).1 in
-    let s' : Spread old.counter old.pages m n =
-    subst (λ i. Spread old.counter i m n) (p ∙ ap pages_of stands.zero ∙ rests.pages)
-    (subst (λ i. Spread i first.pages m n) (c ∙ ap counter_of stands.zero ∙ rests.counter) s) in
     rests_safe n old base k
-    (spread_rests m n old base k.saved rests stands (λ q l. elim (clean q l) [ inl none ↦ none | inr h ↦ absurd h ]) s')
+    (spread_rests m n old base k.saved rests stands (λ q l. elim (clean q l) [ inl none ↦ none | inr h ↦ absurd h ])
+    (rw (c ∙ ap counter_of stands.zero ∙ rests.counter, p ∙ ap pages_of stands.zero ∙ rests.pages) at s))
 
 -- a file whose later pages are cleared and settled is open
 going_open : (m n b : Meaning) (touched new : List ℕ) (k : Book) (first : FirstPage) → Sized m → Sized b → Checked m first new
@@ -160,7 +151,7 @@ module _ {M : Type 0} (meaning : M → Meaning) (sized : (x : M) → Sized (mean
   open_stops : (e : Refusal) → OpenStopped meaning a b work new e → Safe (meaning b) k × ((meaning b).stopped ≡ true)
   open_stops e (inl ((BadRun, _, none), _, _)) = absurd (omega (arith, none, begun.2))
   open_stops e (inl ((Stopped, _, (_, stop)), is, _)) =
-      subst (λ z. Safe (meaning z) k × ((meaning z).stopped ≡ true)) (sym is) (survives meaning sized a s touched k keeps, stop)
+      rw is (survives meaning sized a s touched k keeps, stop)
   open_stops e (inr (first, (fs, sound, _), inl until)) =
       let r = clears_until meaning first.counter first.pages a (omega (arith, fs.1.there, fs.2)) (sized a) sound b e until in
       (spread_safe (meaning a) (meaning b) s touched k first (sized a) keeps begun.1 fs r.1, r.0)
@@ -188,7 +179,7 @@ few_keeps m (Editing first) touched k keeps idle few = absurd idle
 -- opening changes nothing of the book, whatever it answers
 pub open_keeps : {M : Type 0} (meaning : M → Meaning) → ((x : M) → Sized (meaning x)) → OpenKeeps meaning
 open_keeps meaning sized a b s t touched work new (Ok o) k keeps (begun, (first, checked, (x, c, settled), is, _, _)) =
-    subst (λ u. Keeps (meaning b) u touched k) (sym is)
+    rw is
     (open_opens meaning sized a b s touched work new k keeps begun first x o.cleared checked c settled)
 open_keeps meaning sized a b s t touched work new (Err e) k keeps opens = elim (open_refused meaning a b s t work new e opens) [
   | inl (is, same) ↦ rw (is, same) keeps

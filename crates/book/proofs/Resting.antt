@@ -5,9 +5,11 @@ use Rattle.octets.specs.Files.{word}
 use Rattle.octets.specs.Parts.{patched}
 use Rattle.medium.specs.Meaning.{Gains, InRun, Meaning, NoGain, Patches}
 use Rattle.layout.specs.declared.first.FirstPage.{FirstPage}
-use Rattle.layout.specs.Sound.{FirstSound}
+use Rattle.layout.specs.Pages.{records}
+use Rattle.layout.specs.Sound.{FirstSound, Sound}
 use Rattle.guard.specs.Changes.{Drafted}
 use Rattle.guard.specs.Guard.{Allowed}
+use Rattle.guard.proofs.Nearby.{near_records, near_sound}
 use Rattle.book.specs.Books.{Values}
 use Rattle.book.specs.Keeps.{Later, Rests, Stands, Within}
 
@@ -61,3 +63,8 @@ stands_patched m n first base q s b p later d stands = record {
   zero = p.others 0 (λ e. omega (arith, later.0, e)) ∙ stands.zero;
   drafted = λ r l. elim (cases_eq r q) [ inl e ↦ rw e d | inr ne ↦ rw (p.others r ne) (stands.drafted r l) ];
 }
+
+-- such a page is sound, and reads as its base
+pub drafted_reads : (counter pages q : ℕ) (base page : List ℕ) → Drafted counter pages q base page
+    → Sound counter pages q page × (records counter page ≡ records counter base)
+drafted_reads counter pages q base page d = (near_sound counter pages q base page d.base_fits d.near, near_records counter pages q base page d.base_fits d.near)

@@ -18,6 +18,7 @@ use Rattle.book.specs.Books.{Book, Says, Values}
 use Rattle.book.specs.Keeps.{Drafts, Keeps, Later, Rests, Stands}
 use Rattle.book.proofs.Cutting.{file_says}
 use Rattle.book.proofs.Ranges.{key_later}
+use Rattle.book.proofs.Resting.{drafted_reads}
 use Rattle.book.proofs.SavedFirst.{cut_first, cut_later, recounted, recounted_counter, recounted_long, recounted_pages, recounted_sound}
 
 -- a settled medium whose later pages are bases keeps, opened, to what they say
@@ -63,24 +64,18 @@ module _ (a : Meaning) (first : FirstPage) (base : ℕ → List ℕ) (saved draf
       → SoundFile f × Says f saved
   old_says f count zero same =
       file_says f first.pages first.counter base saved
-      (subst (FirstSound f.count) (sym zero) (subst (λ n. FirstSound n (base 0)) (sym count) r.sound))
-      (ap pages_of zero ∙ r.pages) (ap counter_of zero ∙ r.counter)
-      (λ q l.
-      let p = s.drafted q l in (
-        subst (Sound first.counter first.pages q) (sym (same q l)) (near_sound first.counter first.pages q (base q) (a.shown q) p.base_fits p.near),
-        ap (records first.counter) (same q l) ∙ near_records first.counter first.pages q (base q) (a.shown q) p.base_fits p.near,
-      ))
-      r.said
+      (rw (zero, count) r.sound) (ap pages_of zero ∙ r.pages) (ap counter_of zero ∙ r.counter)
+      (λ q l. rw (same q l) (drafted_reads first.counter first.pages q (base q) (a.shown q) (s.drafted q l))) r.said
 
   -- and with the new counter it says the draft
   new_says : (f : File) → f.count ≡ a.pages → f.page 0 ≡ recounted (base 0) (first.counter + 1)
       → ((q : ℕ) → Later first.pages q → f.page q ≡ a.shown q) → SoundFile f × Says f draft
   new_says f count zero same =
       file_says f first.pages (first.counter + 1) a.shown draft
-      (subst (FirstSound f.count) (sym zero) (recounted_sound (base 0) (first.counter + 1) r.long f.count (subst (λ n. FirstSound n (base 0)) (sym count) r.sound)))
+      (rw zero (recounted_sound (base 0) (first.counter + 1) r.long f.count (rw count r.sound)))
       (ap pages_of zero ∙ recounted_pages (base 0) (first.counter + 1) r.long ∙ r.pages)
       (ap counter_of zero ∙ recounted_counter (base 0) (first.counter + 1) r.long room)
-      (λ q l. (subst (Sound (first.counter + 1) first.pages q) (sym (same q l)) (next q l).0.sound, ap (records (first.counter + 1)) (same q l)))
+      (λ q l. rw (same q l) ((next q l).0.sound, refl))
       next_said
 
   -- while the counter may have been written or not, a cut leaves what was saved or the draft
@@ -110,13 +105,8 @@ module _ (a : Meaning) (first : FirstPage) (base : ℕ → List ℕ) (saved draf
       let least : 2 ≤ first.pages = omega (arith, r.pages, r.sound.least) in
       settled_keeps b now touched (record { saved = draft; draft = draft; either = either }) only
       (ap length zero ∙ recounted_long (base 0) (first.counter + 1) r.long)
-      (subst (FirstSound b.pages) (sym zero) (recounted_sound (base 0) (first.counter + 1) r.long b.pages (subst (λ n. FirstSound n (base 0)) (sym count) r.sound)))
+      (rw zero (recounted_sound (base 0) (first.counter + 1) r.long b.pages (rw count r.sound)))
       (ap pages_of zero ∙ recounted_pages (base 0) (first.counter + 1) r.long ∙ r.pages ∙ sym pages)
       (ap counter_of zero ∙ recounted_counter (base 0) (first.counter + 1) r.long room ∙ sym counter)
-      (subst (λ c. (q : ℕ) → Later now.pages q → Base c now.pages q (b.shown q)) (sym counter)
-      (subst (λ p. (q : ℕ) → Later p q → Base (first.counter + 1) p q (b.shown q)) (sym pages)
-      (λ q l. subst (Base (first.counter + 1) first.pages q) (sym (same q l)) (next q l).0)))
-      (subst (λ c. (key : ℕ) → value_in (records c (b.shown (page_of now.pages key))) key ≡ draft key) (sym counter)
-      (subst (λ p. (key : ℕ) → value_in (records (first.counter + 1) (b.shown (page_of p key))) key ≡ draft key) (sym pages)
-      (λ key. ap (λ p. value_in (records (first.counter + 1) p) key) (same (page_of first.pages key) (key_later first.pages key least))
-      ∙ next_said key)))
+      (rw (counter, pages) (λ q l. rw (same q l) (next q l).0))
+      (rw (counter, pages) (λ key. rw (same (page_of first.pages key) (key_later first.pages key least)) (next_said key)))

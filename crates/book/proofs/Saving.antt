@@ -57,29 +57,28 @@ module _ {M : Type 0} (meaning : M → Meaning) (sized : (x : M) → Sized (mean
   -- refused by the medium at any of the three steps
   refuses : (e : Refusal) → Commits meaning (first.counter + 1) a b (Err e) → Keeps (meaning b) Shut touched (doubted k e)
   refuses e (inl (f, is, (_, stops, none, _))) =
-      subst (λ e. Keeps (meaning b) Shut touched (doubted k e)) (sym is) (
+      rw is (
         rests_safe (meaning b) first keeps.0 (doubted k (Medium Settle 0 f)) (rests_on (meaning a) (meaning b) first keeps.0 k.saved none keeps.1),
         λ runs. absurd (false≢true (sym runs ∙ stops)),
       )
   refuses e (inr (inl (x, settled, (f, is, wrote)))) =
       let there : 0 < (meaning x).pages = omega (arith, settled.2, keeps.1.sound.least, keeps.1.sound.there) in
       let u = unwritten (meaning x) (meaning b) (first.counter + 1) f there wrote in
-      subst (λ e. Keeps (meaning b) Shut touched (doubted k e)) (sym is) (between x Write f settled u.0 u.1)
+      rw is (between x Write f settled u.0 u.1)
   refuses e (inr (inr (x, y, settled, wrote, (f, is, (_, stops, none, _))))) =
       let g = wrote.3.gains in
-      subst (λ e. Keeps (meaning b) Shut touched (doubted k e)) (sym is)
+      rw is
       (between x Settle f settled stops (record { pages = none.pages ∙ g.pages; within = λ q k w p. g.within q k w (none.within q k w p) }))
 
 -- saving keeps a store to its book, whatever it answers
 pub save_keeps : {M : Type 0} (meaning : M → Meaning) → ((x : M) → Sized (meaning x)) → SaveKeeps meaning
 save_keeps meaning sized a b s t e number (Ok r) k keeps ((first, (at, is), (now, after, pages, counter)), commits, _, _) =
-    subst (λ t. Keeps (meaning b) t (touched_by e) (record { saved = k.draft; draft = k.draft; either = k.either })) (sym after)
+    rw after
     (accepts meaning sized a b first (touched_by e) k (subst (λ s. Keeps (meaning a) s (touched_by e) k) at keeps) now pages (counter ∙ is)
     (subst (λ n. Commits meaning n a b (Ok tt)) is commits))
 save_keeps meaning sized a b s t e number (Err x) k keeps (inl (is, _, same, stays)) =
-    subst (λ x. Keeps (meaning b) t (touched_by e) (doubted k x)) (sym is)
-    (subst (λ m. Keeps (meaning m) t (touched_by e) k) (sym same) (subst (λ t. Keeps (meaning a) t (touched_by e) k) (sym stays) keeps))
+    rw (is, same, stays) keeps
 save_keeps meaning sized a b s t e number (Err x) k keeps (inr ((first, (at, is)), commits, shut)) =
-    subst (λ t. Keeps (meaning b) t (touched_by e) (doubted k x)) (sym shut)
+    rw shut
     (refuses meaning sized a b first (touched_by e) k (subst (λ s. Keeps (meaning a) s (touched_by e) k) at keeps) x
     (subst (λ n. Commits meaning n a b (Err x)) is commits))
