@@ -83,7 +83,7 @@ clears_none : {M : Type 0} (meaning : M → Meaning) (counter : ℕ) (qs : List 
     → ((q : ℕ) → Has q qs → begun_side counter ((meaning a).shown q) ≡ None) → Clears meaning counter qs a x n → x ≡ a
 clears_none meaning counter [] a x n none (is, _) = is
 clears_none meaning counter (q ∷ qs) a x n none (y, false, k, (_, _, is), rest, _) =
-    clears_none meaning counter qs y x k (λ r h. subst (λ z. begun_side counter ((meaning z).shown r) ≡ None) (sym is) (none r (inr h))) rest ∙ is
+    clears_none meaning counter qs y x k (λ r h. rw is (none r (inr h))) rest ∙ is
 clears_none meaning counter (q ∷ qs) a x n none (y, true, k, (_, (s, some, _)), rest, _) =
     let no : begun_side counter ((meaning a).shown q) ≡ None = none q (inl refl) in
     absurd cc
@@ -91,7 +91,7 @@ clears_none meaning counter (q ∷ qs) a x n none (y, true, k, (_, (s, some, _))
 module _ {M : Type 0} (meaning : M → Meaning) (n o : M) (sized : Sized (meaning n)) (only : Settles (meaning n)) (calm : Calm (meaning n)) where
   -- what stays as it is
   alike_stays : o ≡ n → Alike (meaning n) (meaning o)
-  alike_stays is = subst (λ z. Alike (meaning n) (meaning z)) (sym is) (alike_itself (meaning n) sized only)
+  alike_stays is = rw is (alike_itself (meaning n) sized only)
 
   -- under the first page that is read
   calm_first : (first : FirstPage) → First (meaning n) first → (q : ℕ) → Later first.pages q → begun_side first.counter ((meaning n).shown q) ≡ None

@@ -1,5 +1,5 @@
 -- What a cut leaves of a store that keeps to its book.
-use Rattle.std.proofs.Common.{◌≡◌, ℕ, ◌<◌, List, sym, ap, ◌∙◌, subst, inl, arith}
+use Rattle.std.proofs.Common.{◌≡◌, ℕ, ◌<◌, List, sym, ap, ◌∙◌, subst, inl, refl, arith}
 use Rattle.octets.specs.Files.{File}
 use Rattle.octets.proofs.Words.{words_same}
 use Rattle.medium.specs.Cuts.{CutFile}
@@ -23,13 +23,10 @@ pub file_says : (f : File) (pages counter : ℕ) (base : ℕ → List ℕ) (v : 
     → ((q : ℕ) → Later pages q → Sound counter pages q (f.page q) × (records counter (f.page q) ≡ records counter (base q)))
     → ((key : ℕ) → value_in (records counter (base (page_of pages key))) key ≡ v key)
     → SoundFile f × Says f v
-file_says f pages counter base v first p c each said =
-    let each-here = subst (λ n. (q : ℕ) → Later n q → Sound counter n q (f.page q) × (records counter (f.page q) ≡ records counter (base q))) (sym p) each in
-    let said_here_lem = subst (λ n. (key : ℕ) → value_in (records counter (base (page_of n key))) key ≡ v key) (sym p) said in (
-      record { first = first; pages = λ q l h. subst (λ n. Sound n (pages_of (f.page 0)) q (f.page q)) (sym c) (each-here q (l, h)).0 },
-      λ key. ap (λ n. value_in (records n (f.page (page_of (pages_of (f.page 0)) key))) key) c
-          ∙ ap (λ es. value_in es key) (each-here (page_of (pages_of (f.page 0)) key) (key_later _ key first.least)).1 ∙ said_here_lem key,
-    )
+file_says f pages counter base v first p c each said = (
+  record { first = first; pages = rw (c, p) (λ q l h. (each q (l, h)).0) },
+  λ key. rw (c, p, (each (page_of pages key) (key_later pages key (omega (arith, p, first.least)))).1) (said key),
+)
 
 -- what is saved and rests is what every cut leaves
 pub rests_says : (m : Meaning) (first : FirstPage) (base : ℕ → List ℕ) (v : Values) → Rests m first base v
@@ -40,7 +37,7 @@ rests_says m first base v r f c =
     (λ k h. r.zero k h _ (c.possible 0 k (omega (arith, r.sound.least, r.sound.there)) h)) in
     let within : (q : ℕ) → Later first.pages q → q < m.pages = λ q l. omega (arith, l.1, r.pages, r.sound.there) in
     file_says f first.pages first.counter base v
-    (subst (FirstSound f.count) (sym zero) (subst (λ n. FirstSound n (base 0)) (sym c.count) r.sound))
+    (rw (zero, c.count) r.sound)
     (ap pages_of zero ∙ r.pages) (ap counter_of zero ∙ r.counter)
     (λ q l. guards first.counter first.pages q (base q) (f.page q) (r.bases q l) (c.sized q (within q l))
     (λ k h. r.words q l k h _ (c.possible q k (within q l) h)))
@@ -56,11 +53,9 @@ found_safe m sized v found f c =
     let first = found.sound.first in
     let zero : f.page 0 ≡ m.shown 0 = same 0 (omega (arith, first.least, first.there)) in
     file_says f (pages_of (m.shown 0)) (counter_of (m.shown 0)) m.shown v
-    (subst (FirstSound f.count) (sym zero) (subst (λ n. FirstSound n (m.shown 0)) (sym c.count) first))
+    (rw (zero, c.count) first)
     (ap pages_of zero) (ap counter_of zero)
-    (λ q l.
-    let is : f.page q ≡ m.shown q = same q (omega (arith, l.1, first.there)) in
-    (subst (Sound (counter_of (m.shown 0)) (pages_of (m.shown 0)) q) (sym is) (found.sound.pages q l.0 l.1), ap (records _) is))
+    (λ q l. rw (same q (omega (arith, l.1, first.there))) (found.sound.pages q l.0 l.1, refl))
     found.says
 
 pub starts : {M : Type 0} (meaning : M → Meaning) → ((x : M) → Sized (meaning x)) → Starts meaning

@@ -57,7 +57,7 @@ patched_whole page new h = ap (λ l. new ++ l) (drop_all (0 + length new) page (
 
 -- a run of a whole page that is there is good
 pub good_whole : (pages q n : ℕ) → q < pages → n ≡ 1024 → good pages q 0 n ≡ true
-good_whole pages q n h e = subst (λ n. good pages q 0 n ≡ true) (sym e) (and_from (ltb q pages) true (lt-ltb q pages h) refl)
+good_whole pages q n h e = rw e (and_from (ltb q pages) true (lt-ltb q pages h) refl)
 
 -- what each kind of change does to the draft of the key's page
 changed : (change : Change) (counter pages : ℕ) (base page new : List ℕ) (key : ℕ) (value : List ℕ)
@@ -151,12 +151,12 @@ module _ {M : Type 0} (meaning : M → Meaning) (sized : (x : M) → Sized (mean
       → Applies meaning (page_change change key value) first.counter (page_of first.pages key) a b e f new r
       → Keeps (meaning b) (Editing first) (touched_by f) (edited k key (entered change value) r)
   applied a b first e f change key value new (Ok u) k small short keeps h =
-      subst (λ ts. Keeps (meaning b) (Editing first) ts (edited k key (entered change value) (Ok tt))) (sym h.2.1.1)
+      rw h.2.1.1
       (taken (meaning a) (meaning b) first (touched_by e) k change key value new (sized a) small short h.0 h.1 keeps h.2.0)
   applied a b first e f change key value new (Err x) k small short keeps h = elim h.1 [
     | inl (_, _, _, is, same) ↦ rw (is, same) keeps
     | inr (done, offers) ↦
-        subst (λ f. Keeps (meaning b) (Editing first) (touched_by f) k) (sym offers.1)
+        rw offers.1
         (refused (meaning a) (meaning b) first (touched_by e) k change key value new (sized a) small short h.0 done keeps offers.0.0 offers.0.2)
   ]
 
@@ -167,10 +167,9 @@ module _ {M : Type 0} (meaning : M → Meaning) (sized : (x : M) → Sized (mean
       → Applies meaning (page_change change key value) first.counter (page_of first.pages key) a b e f new r
       → Keeps (meaning b) s (touched_by f) (edited k key (entered change value) r)
   ready_applied a b s first e f change key number size value new r k small keeps ready h =
-      let is : s ≡ Editing first = ready.1.0 in
-      subst (λ s. Keeps (meaning b) s (touched_by f) (edited k key (entered change value) r)) (sym is)
+      rw ready.1.0
       (applied a b first e f change key value new r k small (ltb-false 200 (length value) ready.2)
-      (subst (λ s. Keeps (meaning a) s (touched_by e) k) is keeps) h)
+      (subst (λ s. Keeps (meaning a) s (touched_by e) k) ready.1.0 keeps) h)
 
 -- a change keeps the store to its book, whatever it answers
 pub edit_keeps : {M : Type 0} (meaning : M → Meaning) → ((x : M) → Sized (meaning x)) → EditKeeps meaning

@@ -56,25 +56,22 @@ module _ {M F K : Type 0} (meaning : M → Meaning) (sized : (x : M) → Sized (
   edited_keeps tells tell i change key value r a b k (inl none) kept =
       slipless_keeps i a b r (λ r. if_taken r (drafted k key (entered change value)) k) none kept
   edited_keeps tells tell i change key value r a b k (inr (slip, _, (x, is, (small, edits, same, _)))) kept =
-      subst (λ s. Keeps (meaning b.store.medium) s (touched_by b.store.edit) (if_taken r (drafted k key (entered change value)) k)) (sym same)
-      (subst (Keeps (meaning b.store.medium) a.store.state (touched_by b.store.edit))
-      (tell k key (entered change value) x ∙ ap (λ r. if_taken r (drafted k key (entered change value)) k) (sym is))
+      rw (same, is, ← tell k key (entered change value) x)
       (edit_keeps meaning sized a.store.medium b.store.medium a.store.state a.store.edit b.store.edit change key slip.number value
-      a.work b.work x k small kept edits))
+      a.work b.work x k small kept edits)
 
   -- a call that only reads
   reads_keeps : (a b : Moment M) (k : Book) → OnlyReads a b → Kept meaning a k → Kept meaning b k
-  reads_keeps a b k (same, _) kept = subst (λ s. Keeps (meaning s.medium) s.state (touched_by s.edit) k) (sym same) kept
+  reads_keeps a b k (same, _) kept = rw same kept
 
   -- every call keeps the store to the book that is fed it
   pub makes_keeps : (c : Call F K) (r : Answer F) (a b : Moment M) (k : Book) → Makes meaning bytes reads c r a b → Kept meaning a k → Kept meaning b (fed bytes k c r)
   makes_keeps Open r a b k (x, _, opens, same, _) kept =
-      subst (λ e. Keeps (meaning b.store.medium) b.store.state (touched_by e) k) (sym same)
+      rw same
       (open_keeps meaning sized a.store.medium b.store.medium a.store.state b.store.state (touched_by a.store.edit) a.work b.work x k kept opens)
   makes_keeps Begin r a b k (x, gives, begins, same, _) kept =
-      subst (λ m. Keeps (meaning m) b.store.state (touched_by b.store.edit) (fed {K = K} bytes k Begin r)) (sym same)
-      (subst (Keeps (meaning a.store.medium) b.store.state (touched_by b.store.edit)) (gives_begun a b x r k gives)
-      (begin_keeps meaning sized a.store.medium a.store.state b.store.state a.store.edit b.store.edit x k kept begins))
+      rw (same, ← gives_begun a b x r k gives)
+      (begin_keeps meaning sized a.store.medium a.store.state b.store.state a.store.edit b.store.edit x k kept begins)
   makes_keeps (Put i key value) r a b k makes kept = edited_keeps (told (λ _. Changed)) (told_edit F) i Putting key (vec_items value) r a b k makes kept
   makes_keeps (ChangeTo i key value) r a b k makes kept = edited_keeps (told (λ _. Changed)) (told_edit F) i Replacing key (vec_items value) r a b k makes kept
   makes_keeps (Remove i key) r a b k makes kept = edited_keeps (told (λ _. Changed)) (told_edit F) i Removing key [] r a b k makes kept
@@ -82,12 +79,11 @@ module _ {M F K : Type 0} (meaning : M → Meaning) (sized : (x : M) → Sized (
   makes_keeps (Next least) r a b k (_, _, _, only) kept = reads_keeps a b k only kept
   makes_keeps (Save i) r a b k (inl none) kept = slipless_keeps i a b r (after_save k) none kept
   makes_keeps (Save i) r a b k (inr (slip, _, (x, is, saves, (_, same, _)))) kept =
-      subst (λ e. Keeps (meaning b.store.medium) b.store.state (touched_by e) (after_save k r)) (sym same)
-      (subst (Keeps (meaning b.store.medium) b.store.state (touched_by a.store.edit)) (told_save _ k x ∙ ap (after_save k) (sym is))
-      (save_keeps meaning sized a.store.medium b.store.medium a.store.state b.store.state a.store.edit slip.number x k kept saves))
+      rw (same, is, ← told_save _ k x)
+      (save_keeps meaning sized a.store.medium b.store.medium a.store.state b.store.state a.store.edit slip.number x k kept saves)
   makes_keeps (Abandon i) r a b k (inl none) kept = slipless_keeps i a b r (λ _. k) none kept
   makes_keeps (Abandon i) r a b k (inr (slip, _, (x, _, abandons, (_, same, _)))) kept =
-      subst (λ e. Keeps (meaning b.store.medium) b.store.state (touched_by e) k) (sym same)
+      rw same
       (abandon_keeps meaning sized a.store.medium b.store.medium a.store.state b.store.state a.store.edit slip.number x k kept abandons)
   makes_keeps (PutForm i key value) r a b k makes kept = edited_keeps (told_of key (λ _. Changed)) (told_form F key) i Putting key (bytes value) r a b k makes kept
   makes_keeps (ChangeForm i key value) r a b k makes kept = edited_keeps (told_of key (λ _. Changed)) (told_form F key) i Replacing key (bytes value) r a b k makes kept
@@ -96,7 +92,7 @@ module _ {M F K : Type 0} (meaning : M → Meaning) (sized : (x : M) → Sized (
   -- and so every run of calls
   pub ran_keeps : (cs : List (Call F K)) (rs : List (Answer F)) (a b : Moment M) (k : Book) → Ran meaning bytes reads cs rs a b → Kept meaning a k
       → Kept meaning b (fed_all bytes k cs rs)
-  ran_keeps [] [] a b k same kept = subst (λ b. Kept meaning b k) (sym same) kept
+  ran_keeps [] [] a b k same kept = rw same kept
   ran_keeps [] (r ∷ rs) a b k ran kept = absurd ran
   ran_keeps (c ∷ cs) [] a b k ran kept = absurd ran
   ran_keeps (c ∷ cs) (r ∷ rs) a b k (x, makes, ran) kept = ran_keeps cs rs x b (fed bytes k c r) ran (makes_keeps c r a x k makes kept)

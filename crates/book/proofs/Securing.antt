@@ -18,7 +18,7 @@ pub ran_secure : {M F K : Type 0} (meaning : M → Meaning) → ((x : M) → Siz
     → Secure meaning kind bytes reads cs rs a b
 ran_secure meaning sized kind bytes reads there cs rs a b ran = record {
   begins = λ v begins.
-      subst (λ s. Keeps (meaning a.store.medium) s (touched_by a.store.edit) (opening v)) (sym begins.0)
+      rw begins.0
       (starts meaning sized a.store.medium v (touched_by a.store.edit) begins.1);
   keeps = λ k kept. ran_keeps meaning sized bytes reads cs rs a b k ran kept;
   survives = λ k kept. ran_survives meaning sized bytes reads cs rs a b k ran kept;

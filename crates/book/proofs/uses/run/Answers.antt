@@ -7,11 +7,12 @@ use Rattle.book.proofs.uses.run.Goals as goal
 
 pub loop-call-preserved : goal.loop-call-preserved
 loop-call-preserved g c = (
-  ran_more g.M.Medium.meaning g.F.Forms.bytes g.F.Forms.reads c.args.calls.now c.loop-call.call-index c.call-item.result
-      (vec_items c.loop-call.answers) (vec_items c.push_reserved.new.self) c.make.result
+  rw c.push_reserved.ensures.items
+      (ran_more g.M.Medium.meaning g.F.Forms.bytes g.F.Forms.reads c.args.calls.now c.loop-call.call-index c.call-item.result
+      (vec_items c.loop-call.answers) c.make.result
       (moment c.args.store.now c.reserve.new.self c.args.work.now) (moment c.loop-call.store c.loop-call.slips c.loop-call.work)
       (moment c.make.new.store c.make.new.slips c.make.new.work)
-      c.loop-call-test.true c.call-item.is c.loop-call.invariant.0 c.make.ensures.makes c.push_reserved.ensures.items,
+      c.loop-call-test.true c.call-item.is c.loop-call.invariant.0 c.make.ensures.makes),
   omega (arith, c.loop-call.invariant.1, c.make.ensures.room.0, c.make.ensures.room.1, c.loop-call-test.true),
   omega (arith, c.loop-call.invariant.2, c.push_reserved.ensures.len, c.push_reserved.ensures.capacity, c.loop-call-test.true),
 )
