@@ -10,7 +10,6 @@ use Rattle.layout.specs.declared.first.FirstPage.{FirstPage}
 use Rattle.layout.specs.Sound.{counter_of, pages_of}
 use Rattle.draft.specs.Drafts.{begun_side}
 use Rattle.store.specs.declared.refusal.Refusal.{Refusal}
-use Rattle.store.specs.declared.refusal.Refusal.TheVariants.{WorkPage, PageCount, NotAShowFile, Unsound, Medium, NotOpen, EditOpen, NoEdit, LastCounter, TooLong, TooMany, KeyInDraft, NoSuchKey, DraftFull, NoPlace}
 use Rattle.store.specs.declared.state.Opened.{Opened}
 use Rattle.store.specs.declared.state.Place.{Place}
 use Rattle.store.specs.declared.state.State.{State}

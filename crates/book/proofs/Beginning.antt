@@ -1,6 +1,5 @@
 -- Beginning an edit keeps the store to its book.
-use Rattle.std.proofs.Common.{◌≡◌, ℕ, ◌+◌, ◌^◌, ◌<◌, List, [], map, None, Ok, Err, sym, ap, ◌∙◌, subst, inl, inr, arith, rules}
-use Rattle.std.specs.List.{AllByRecursion}
+use Rattle.std.proofs.Common.{◌≡◌, ℕ, ◌+◌, ◌^◌, ◌<◌, List, [], map, None, Ok, Err, ap, ◌∙◌, subst, inl, inr, arith, rules}
 use Rattle.medium.specs.Meaning.{Meaning, Sized}
 use Rattle.layout.specs.declared.first.FirstPage.{FirstPage}
 use Rattle.layout.specs.Pages.{entry_of, page_of, records}
@@ -8,12 +7,9 @@ use Rattle.draft.specs.Drafts.{begun_side, draft_records, slots_on}
 use Rattle.guard.specs.Changes.{Drafted, value_in}
 use Rattle.guard.proofs.Nearby.{near_records}
 use Rattle.guard.proofs.Stages.{draft_all}
-use Rattle.store.specs.declared.refusal.Refusal.TheVariants.{WorkPage, PageCount, NotAShowFile, Unsound, Medium, NotOpen, EditOpen, NoEdit, LastCounter, TooLong, TooMany, KeyInDraft, NoSuchKey, DraftFull, NoPlace}
-use Rattle.store.specs.declared.state.Edit.{Edit}
-use Rattle.store.specs.declared.state.State.{State}
 use Rattle.store.specs.declared.state.State.TheVariants.{Open, Editing}
 use Rattle.store.specs.Edits.{touched_by}
-use Rattle.book.specs.Books.{Book, begun}
+use Rattle.book.specs.Books.{Book}
 use Rattle.book.specs.Keeps.{CleanBut, Keeps, Later}
 use Rattle.book.proofs.Steps.{BeginKeeps}
 use Rattle.book.proofs.Ranges.{key_later}

@@ -1,14 +1,13 @@
 -- Clearing the pages of a file that was found.
-use Rattle.std.proofs.Common.{rules, ◌≡◌, ℕ, zero, suc, ◌+◌, ◌-◌, ◌<◌, ◌≤◌, Bool, true, false, ◌⊎◌, List, [], ◌∷◌, length, get_or, take, Some, None, Ok, Err, sym, refl, ap, ◌∙◌, subst, inl, inr, ⊎_elim, arith}
+use Rattle.std.proofs.Common.{rules, ◌≡◌, ℕ, zero, suc, ◌+◌, ◌-◌, ◌<◌, ◌≤◌, Bool, true, false, ◌⊎◌, List, [], ◌∷◌, length, get_or, take, Some, None, Ok, Err, sym, refl, ap, ◌∙◌, subst, inl, inr, arith}
 use Rattle.std.specs.List.{range_with_len}
 use Rattle.std.proofs.lemmas.List.FromFn.{get_or-range_with_len, length-range_with_len}
-use Rattle.std.proofs.lemmas.Bool.{and_from, cases_eq, lt-ltb}
+use Rattle.std.proofs.lemmas.Bool.{cases_eq}
 use Rattle.octets.specs.Files.{word}
 use Rattle.octets.specs.Parts.{patched}
 use Rattle.medium.specs.declared.fault.MediumFault.TheVariants.{BadRun, Stopped}
-use Rattle.medium.specs.Meaning.{Gains, Meaning, NoGain, Patches, Sized, good}
+use Rattle.medium.specs.Meaning.{Gains, Meaning, NoGain, Sized}
 use Rattle.layout.specs.declared.header.Side.{Side}
-use Rattle.layout.specs.declared.header.Side.TheVariants.{A, B}
 use Rattle.layout.specs.Pages.{start}
 use Rattle.layout.specs.Sound.{Sound}
 use Rattle.draft.specs.Drafts.{begun_side}

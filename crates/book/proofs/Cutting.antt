@@ -1,5 +1,5 @@
 -- What a cut leaves of a store that keeps to its book.
-use Rattle.std.proofs.Common.{◌≡◌, ℕ, ◌<◌, List, sym, ap, ◌∙◌, subst, inl, refl, arith}
+use Rattle.std.proofs.Common.{◌≡◌, ℕ, ◌<◌, List, ap, ◌∙◌, inl, refl, arith}
 use Rattle.octets.specs.Files.{File}
 use Rattle.octets.proofs.Words.{words_same}
 use Rattle.medium.specs.Cuts.{CutFile}

@@ -1,18 +1,16 @@
 -- A change under a slip keeps the store to its book.
-use Rattle.std.proofs.Common.{◌≡◌, ℕ, ◌+◌, ◌^◌, ◌<◌, ◌≤◌, true, cond, eqb, ltb, List, [], ◌∷◌, ◌++◌, length, Ok, Err, Option, Result, sym, refl, ap, ◌∙◌, subst, inl, inr, arith}
+use Rattle.std.proofs.Common.{◌≡◌, ℕ, ◌+◌, ◌^◌, ◌<◌, ◌≤◌, true, cond, eqb, ltb, List, [], ◌∷◌, ◌++◌, length, Ok, Err, Result, sym, refl, ap, ◌∙◌, subst, inl, inr, arith}
 use Rattle.std.specs.List.{AllByRecursion}
 use Rattle.std.proofs.lemmas.List.{append-nil, drop_all}
 use Rattle.std.proofs.lemmas.Bool.{and_from, cases_eq, cond_both, cond-false, eqb-true, lt-ltb, ltb-false, ne_eqb, true≢false}
-use Rattle.octets.specs.Files.{word}
 use Rattle.octets.specs.Parts.{patched}
 use Rattle.medium.specs.declared.fault.MediumFault.{MediumFault}
 use Rattle.medium.specs.declared.fault.MediumFault.TheVariants.{BadRun, Stopped}
 use Rattle.medium.specs.Meaning.{Gains, Meaning, Patches, Sized, Wrote, good}
 use Rattle.layout.specs.declared.first.FirstPage.{FirstPage}
 use Rattle.layout.specs.Pages.{page_of}
-use Rattle.draft.specs.Drafts.{begun_side, draft_records}
+use Rattle.draft.specs.Drafts.{draft_records}
 use Rattle.guard.specs.Changes.{Changes, Drafted, value_in}
-use Rattle.guard.specs.Guard.{Allowed}
 use Rattle.guard.proofs.Changed.{puts, removes, replaces}
 use Rattle.guard.proofs.Nearby.{near_words}
 use Rattle.store.specs.declared.change.Change.{Change}
@@ -25,7 +23,7 @@ use Rattle.store.specs.Access.{Grants}
 use Rattle.store.specs.Edits.{Applies, Ready, page_change, touched_by}
 use Rattle.store.specs.Touches.{added}
 use Rattle.book.specs.Books.{Book, Values, edited, with}
-use Rattle.book.specs.Keeps.{CleanBut, Drafts, Has, Keeps, Later, Rests, Stands}
+use Rattle.book.specs.Keeps.{CleanBut, Drafts, Has, Keeps, Later, Rests}
 use Rattle.book.proofs.Steps.{EditKeeps, entered}
 use Rattle.book.proofs.Ranges.{key_later}
 use Rattle.book.proofs.Resting.{rests_gains, stands_patched}

@@ -1,5 +1,5 @@
 -- What a look finds on an opened file.
-use Rattle.std.proofs.Common.{◌≡◌, ℕ, suc, ◌+◌, ◌-◌, ◌<◌, ◌≤◌, false, eqb, leb, List, [], ◌∷◌, map, length, drop, Some, None, Ok, Err, Option, Result, sym, refl, ap, ◌∙◌, subst, inl, inr, arith, length-drop, length-take}
+use Rattle.std.proofs.Common.{◌≡◌, ℕ, suc, ◌+◌, ◌-◌, ◌<◌, ◌≤◌, false, eqb, leb, List, [], ◌∷◌, map, length, drop, Some, None, Ok, Err, Option, Result, sym, refl, ap, ◌∙◌, inl, inr, arith, length-drop, length-take}
 use Rattle.std.specs.Option.{option_map}
 use Rattle.std.proofs.lemmas.List.{take_all}
 use Rattle.std.proofs.lemmas.Bool.{cond_both, cond-true, le-leb}
@@ -14,12 +14,11 @@ use Rattle.layout.specs.Pages.{Entry, entry_of, key_of, page_of, records, saved_
 use Rattle.layout.specs.Sound.{Inside, Sound, at}
 use Rattle.layout.specs.Walks.{keyed}
 use Rattle.guard.specs.Changes.{value_in}
-use Rattle.guard.proofs.Nearby.{near_records, near_sound}
 use Rattle.store.specs.declared.refusal.Refusal.{Refusal}
 use Rattle.store.specs.declared.state.Place.{Place}
 use Rattle.store.specs.declared.state.State.TheVariants.{Open}
 use Rattle.store.specs.Access.{Denies}
-use Rattle.store.specs.Looks.{Looks, opened, saved_on, value_at}
+use Rattle.store.specs.Looks.{Looks, opened, value_at}
 use Rattle.book.specs.Books.{Values}
 use Rattle.book.specs.Keeps.{Later, Rests, Stands}
 use Rattle.book.proofs.Ranges.{key_later}

@@ -1,5 +1,5 @@
 -- Each call of a use keeps the store to its book.
-use Rattle.std.proofs.Common.{◌≡◌, ℕ, List, [], ◌∷◌, Ok, Err, vec_items, Option, Result, sym, refl, ap, ◌∙◌, subst, inl, inr, rules}
+use Rattle.std.proofs.Common.{◌≡◌, ℕ, List, [], ◌∷◌, Err, vec_items, Option, Result, inl, inr, rules}
 use Rattle.medium.specs.Meaning.{Meaning, Sized}
 use Rattle.form.specs.declared.form.BadByte.{BadByte}
 use Rattle.store.specs.declared.change.Change.{Change}
@@ -13,7 +13,6 @@ use Rattle.book.specs.declared.call.Denied.TheVariants.{NoSlip}
 use Rattle.book.specs.declared.call.Done.{Done}
 use Rattle.book.specs.declared.call.Done.TheVariants.{Changed}
 use Rattle.book.specs.Books.{Book, begun, edited, saved_by}
-use Rattle.book.specs.Keeps.{Keeps}
 use Rattle.book.proofs.Steps.{entered}
 use Rattle.book.specs.Theorem.{Kept, Survives, after_save, drafted, fed, fed_all, if_taken}
 use Rattle.book.specs.Uses.{Answer, Edited, Gives, Makes, Moment, OnlyReads, Ran, Slipless, told, told_of}

@@ -1,20 +1,19 @@
 -- Opening keeps the store to its book.
-use Rattle.std.proofs.Common.{◌⊎◌, rules, ◌≡◌, ℕ, ◌<◌, ◌≤◌, true, false, List, None, Ok, Err, sym, refl, ap, ◌∙◌, subst, inl, inr, arith}
-use Rattle.octets.specs.Files.{File, word}
+use Rattle.std.proofs.Common.{◌⊎◌, ◌≡◌, ℕ, ◌<◌, ◌≤◌, true, false, List, None, Ok, Err, sym, refl, ap, ◌∙◌, inl, inr, arith}
+use Rattle.octets.specs.Files.{File}
 use Rattle.octets.proofs.Words.{words_same}
 use Rattle.medium.specs.declared.fault.MediumFault.TheVariants.{BadRun, Stopped}
 use Rattle.medium.specs.Cuts.{CutFile, shown_file}
 use Rattle.medium.specs.Meaning.{Meaning, Settled, Sized}
 use Rattle.layout.specs.declared.first.FirstPage.{FirstPage}
 use Rattle.layout.specs.Pages.{page_of, records}
-use Rattle.layout.specs.Sound.{FirstSound, Sound, SoundFile, counter_of, pages_of}
+use Rattle.layout.specs.Sound.{FirstSound, SoundFile, counter_of, pages_of}
 use Rattle.draft.specs.Drafts.{begun_side}
 use Rattle.guard.specs.Changes.{value_in}
 use Rattle.guard.specs.Clears.{cleared}
-use Rattle.guard.specs.Guard.{Allowed, Base}
+use Rattle.guard.specs.Guard.{Base}
 use Rattle.guard.proofs.Cleared.{clears}
-use Rattle.guard.proofs.Nearby.{near_itself, near_records, near_sound, near_words}
-use Rattle.guard.proofs.Stages.{begins}
+use Rattle.guard.proofs.Nearby.{near_words}
 use Rattle.store.specs.declared.refusal.Refusal.{Refusal}
 use Rattle.store.specs.declared.refusal.Refusal.TheVariants.{WorkPage, PageCount, NotAShowFile, Unsound, Medium, NotOpen, EditOpen, NoEdit, LastCounter, TooLong, TooMany, KeyInDraft, NoSuchKey, DraftFull, NoPlace}
 use Rattle.store.specs.declared.state.State.{State}
@@ -25,7 +24,7 @@ use Rattle.store.specs.Opens.{Begun, Checked, First, Idle, OpenStopped, Opens}
 use Rattle.book.specs.Books.{Book, Says, Values}
 use Rattle.book.specs.Keeps.{Found, Keeps, Later, Rests, Safe, Stands}
 use Rattle.book.proofs.Steps.{OpenKeeps}
-use Rattle.book.proofs.Clearing.{Going, Spread, base_none, cleared_base, cleared_none, clears_all, clears_until, spread_on}
+use Rattle.book.proofs.Clearing.{Going, Spread, cleared_base, cleared_none, clears_all, clears_until, spread_on}
 use Rattle.book.proofs.Cutting.{file_says, rests_safe, survives}
 use Rattle.book.proofs.Ranges.{key_later}
 use Rattle.book.proofs.Resting.{drafted_reads, rests_spread}

@@ -6,7 +6,7 @@ use Rattle.octets.specs.Parts.{patched}
 use Rattle.medium.specs.Meaning.{Gains, InRun, Meaning, NoGain, Patches}
 use Rattle.layout.specs.declared.first.FirstPage.{FirstPage}
 use Rattle.layout.specs.Pages.{records}
-use Rattle.layout.specs.Sound.{FirstSound, Sound}
+use Rattle.layout.specs.Sound.{Sound}
 use Rattle.guard.specs.Changes.{Drafted}
 use Rattle.guard.specs.Guard.{Allowed}
 use Rattle.guard.proofs.Nearby.{near_records, near_sound}

@@ -1,5 +1,5 @@
 -- A run, one call longer.
-use Rattle.std.proofs.Common.{◌≡◌, ℕ, zero, suc, ◌+◌, ◌<◌, List, [], ◌∷◌, ◌++◌, length, get_or, take, Result, sym, refl, subst, arith}
+use Rattle.std.proofs.Common.{◌≡◌, ℕ, zero, suc, ◌+◌, ◌<◌, List, [], ◌∷◌, ◌++◌, length, get_or, take, Result, refl, arith}
 use Rattle.medium.specs.Meaning.{Meaning}
 use Rattle.form.specs.declared.form.BadByte.{BadByte}
 use Rattle.book.specs.declared.call.Call.{Call}

@@ -6,11 +6,11 @@ use Rattle.medium.specs.Cuts.{CutFile}
 use Rattle.medium.specs.Meaning.{Gains, Meaning, Settled, Settles, Sized, Wrote}
 use Rattle.layout.specs.declared.first.FirstPage.{FirstPage}
 use Rattle.layout.specs.Pages.{page_of, records}
-use Rattle.layout.specs.Sound.{FirstSound, Sound, SoundFile, counter_of, pages_of}
+use Rattle.layout.specs.Sound.{FirstSound, SoundFile, counter_of, pages_of}
 use Rattle.draft.specs.Drafts.{draft_records}
 use Rattle.guard.specs.Changes.{value_in}
 use Rattle.guard.specs.Guard.{Allowed, Base}
-use Rattle.guard.proofs.Nearby.{base_low, near_itself, near_records, near_sound, near_words}
+use Rattle.guard.proofs.Nearby.{base_low, near_itself, near_words}
 use Rattle.guard.proofs.Sided.{begun_none}
 use Rattle.guard.proofs.Stages.{begins, saves}
 use Rattle.store.specs.declared.state.State.TheVariants.{Open}

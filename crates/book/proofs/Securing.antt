@@ -1,11 +1,9 @@
 -- The cut theorem, put together.
-use Rattle.std.proofs.Common.{◌≡◌, ℕ, List, Ok, Result, sym, subst}
+use Rattle.std.proofs.Common.{◌≡◌, ℕ, List, Ok, Result}
 use Rattle.medium.specs.Meaning.{Meaning, Sized}
 use Rattle.form.specs.declared.form.BadByte.{BadByte}
 use Rattle.store.specs.Edits.{touched_by}
 use Rattle.book.specs.declared.call.Call.{Call}
-use Rattle.book.specs.Books.{opening}
-use Rattle.book.specs.Keeps.{Keeps}
 use Rattle.book.specs.Theorem.{Secure, fed_all}
 use Rattle.book.specs.Uses.{Answer, Moment, Ran}
 use Rattle.book.proofs.Afterwards.{opens_alike, reads_forms}

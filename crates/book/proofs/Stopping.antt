@@ -1,22 +1,18 @@
 -- A call of a use is never refused for a bad run.
-use Rattle.std.proofs.Common.{◌≡◌, ℕ, zero, suc, ◌+◌, ◌-◌, ◌^◌, ◌<◌, ◌≤◌, true, false, ltb, List, [], ◌∷◌, length, get_or, take, Some, Ok, Err, vec_items, Result, sym, refl, ap, ◌∙◌, subst, inl, inr, arith, rules}
+use Rattle.std.proofs.Common.{◌≡◌, ℕ, ◌^◌, ◌<◌, ◌≤◌, false, ltb, List, [], ◌∷◌, length, get_or, take, Some, Ok, Err, vec_items, Result, sym, refl, subst, inl, inr, arith, rules}
 use Rattle.std.specs.List.{AllByRecursion}
-use Rattle.std.proofs.lemmas.List.FromFn.{get_or-range_with_len, length-range_with_len}
 use Rattle.std.proofs.lemmas.Bool.{both_ways, ltb-false}
 use Rattle.std.proofs.lemmas.Grind.{common_steps}
-use Rattle.octets.specs.Numbers.{spell}
 use Rattle.medium.specs.declared.fault.MediumFault.{MediumFault}
-use Rattle.medium.specs.declared.fault.MediumFault.TheVariants.{BadRun, Stopped}
+use Rattle.medium.specs.declared.fault.MediumFault.TheVariants.{Stopped}
 use Rattle.medium.specs.Meaning.{Meaning, Sized, Wrote, good}
 use Rattle.form.specs.declared.form.BadByte.{BadByte}
 use Rattle.layout.specs.declared.first.FirstPage.{FirstPage}
-use Rattle.layout.specs.Pages.{page_of, start}
-use Rattle.draft.specs.declared.refusal.PageRefusal.{PageRefusal}
-use Rattle.draft.specs.declared.refusal.PageRefusal.TheVariants.{KeyInDraft as InDraft, NoSuchKey as NoKey, DraftFull as Full, NoPlace as Nowhere}
+use Rattle.layout.specs.Pages.{page_of}
 use Rattle.store.specs.declared.change.Change.{Change}
 use Rattle.store.specs.declared.change.Change.TheVariants.{Put as Putting, Replace as Replacing, Remove as Removing}
 use Rattle.store.specs.declared.refusal.Refusal.{Refusal}
-use Rattle.store.specs.declared.refusal.Refusal.TheVariants.{Medium, NoEdit, NoSuchKey}
+use Rattle.store.specs.declared.refusal.Refusal.TheVariants.{Medium}
 use Rattle.store.specs.declared.refusal.Step.{Step}
 use Rattle.store.specs.declared.refusal.Step.TheVariants.{Write}
 use Rattle.store.specs.declared.slip.Slip.{Slip}
@@ -24,12 +20,12 @@ use Rattle.store.specs.declared.state.Edit.{Edit}
 use Rattle.store.specs.declared.state.Opened.{Opened}
 use Rattle.store.specs.declared.state.Place.{Place}
 use Rattle.store.specs.declared.state.State.{State}
-use Rattle.store.specs.declared.state.State.TheVariants.{Shut, Open as IsOpen, Editing}
+use Rattle.store.specs.declared.state.State.TheVariants.{Editing}
 use Rattle.store.specs.Access.{ReadDenied}
-use Rattle.store.specs.Clearing.{ClearsPage, zeros}
-use Rattle.store.specs.Edits.{Applies, Begins, Edits, Ready, page_change, passed_up, touched_by}
+use Rattle.store.specs.Clearing.{ClearsPage}
+use Rattle.store.specs.Edits.{Applies, Begins, Edits, page_change, touched_by}
 use Rattle.store.specs.Ends.{Abandons, Commits, Saves, SettlesOr}
-use Rattle.store.specs.Looks.{Looks, Readable, opened}
+use Rattle.store.specs.Looks.{Looks, opened}
 use Rattle.store.specs.Nexts.{Nexts}
 use Rattle.store.specs.Opening.{Clears, ClearsUntil, later_pages}
 use Rattle.store.specs.Opens.{OpenStopped, Opens}

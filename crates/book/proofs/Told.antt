@@ -1,11 +1,7 @@
 -- What a look tells of the page.
-use Rattle.std.proofs.Common.{◌≡◌, ℕ, ◌+◌, List, length, take, drop, Some, None, Ok, Err, Option, Result, unwrap_or, ap, ◌∙◌, subst, inl, inr, arith}
+use Rattle.std.proofs.Common.{◌≡◌, ℕ, List, Ok, Err, Option, Result, unwrap_or, ap, ◌∙◌, inr}
 use Rattle.std.specs.Option.{option_map}
-use Rattle.std.proofs.lemmas.List.{take_all, take-append-le}
-use Rattle.octets.specs.Parts.{patched}
 use Rattle.medium.specs.Meaning.{Meaning}
-use Rattle.store.specs.declared.change.Change.{Change}
-use Rattle.store.specs.declared.refusal.Refusal.{Refusal}
 use Rattle.form.specs.declared.form.BadByte.{BadByte}
 use Rattle.store.specs.declared.state.Place.{Place}
 use Rattle.store.specs.Looks.{Looks, opened, value_at}

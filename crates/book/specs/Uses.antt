@@ -16,6 +16,7 @@ use Rattle.store.specs.Ends.{Abandons, Saves}
 use Rattle.store.specs.Looks.{Looks, opened, value_at}
 use Rattle.store.specs.Nexts.{Nexts}
 use Rattle.store.specs.Opens.{Opens}
+use Rattle.book.specs.declared.desk.Desk.{Desk}
 use Rattle.book.specs.declared.slips.Slips.{Slips}
 use Rattle.book.specs.declared.call.Call.{Call}
 use Rattle.book.specs.declared.call.Call.TheVariants.{Open, Begin, Put, Change as ChangeTo, Remove, Look, Next, Save, Abandon, PutForm, ChangeForm, LookForm}
@@ -33,6 +34,16 @@ pub record Moment (M : Type 0) : Type 0 where
 -- the moment of these
 abbrev pub moment : {M : Type 0} → Store M → Slips → List ℕ → Moment M
 moment store slips work = record { store = store; slips = vec_items slips.given; work = work }
+
+-- the moment at a desk
+abbrev pub at_desk : {M : Type 0} → Desk M → Moment M
+at_desk desk = moment desk.store.now desk.slips.now desk.work.now
+
+-- a desk is of the same store, slips and work page
+pub record SameDesk {M : Type 0} (a b : Desk M) : Type 0 where
+  pub store : b.store.ghost_name ≡ a.store.ghost_name
+  pub slips : b.slips.ghost_name ≡ a.slips.ghost_name
+  pub work : b.work.ghost_name ≡ a.work.ghost_name
 
 -- what a call answers
 abbrev pub Answer : Type 0 → Type 0

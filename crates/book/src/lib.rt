@@ -2,6 +2,7 @@
 #![tactic(auto)]
 
 mod call;
+mod desk;
 mod make;
 mod reads;
 mod slips;

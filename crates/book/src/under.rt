@@ -3,10 +3,10 @@ ghost use Rattle.std.specs.Prelude.{◌≡◌, ◌≤◌, length, nat_lt};
 ghost use Rattle.store.specs.declared.change.Change.TheVariants.{Remove};
 ghost use Rattle.store.specs.Edits.{Edits, page_change};
 ghost use Rattle.book.specs.declared.call.Done.TheVariants.{Changed};
-ghost use Rattle.book.specs.Uses.{Edited, moment, told, told_of};
+ghost use Rattle.book.specs.Uses.{Edited, SameDesk, at_desk, told, told_of};
 
 use super::call::{Denied, Done};
-use super::slips::Slips;
+use super::desk::Desk;
 use form::Forms;
 use medium::Medium;
 use store::{Change, Refusal, Slip, Store};
@@ -31,24 +31,6 @@ fn apply<M: Medium>(
     }
 }
 
-// Makes a change under the slip at a place, and tells what it answers.
-pub(super) fn edit<M: Medium, F>(
-    store: &mut Store<M>,
-    slips: &Slips,
-    work: &mut [u8],
-    at: usize,
-    change: Change,
-    key: u32,
-    value: &[u8],
-) -> Result<Done<F>, Denied>
-    requires { change ≡ Remove → length value.now ≤ 200 }
-    ensures { Edited M.Medium.meaning (told (λ _. Changed)) at change key value.now (moment store.old slips.now work.old) (moment store.new slips.now work.new) result }
-{
-    let slip = slips.get(at).ok_or(Denied::NoSlip)?;
-    apply(store, work, slip, change, key, value)?;
-    Ok(Done::Changed)
-}
-
 // The bytes of a form's value, put into a buffer.
 fn bytes_of<'a, F: Forms>(value: &F, buffer: &'a mut [u8; 200]) -> &'a [u8]
     ensures { result.now ≡ F.Forms.bytes value.now }
@@ -57,21 +39,44 @@ fn bytes_of<'a, F: Forms>(value: &F, buffer: &'a mut [u8; 200]) -> &'a [u8]
     &buffer[..n]
 }
 
-// Makes a change to a form's value, likewise.
-pub(super) fn edit_form<M: Medium, F: Forms>(
-    store: &mut Store<M>,
-    slips: &Slips,
-    work: &mut [u8],
-    at: usize,
-    change: Change,
-    key: u32,
-    value: &F,
-) -> Result<Done<F>, Denied>
-    ensures { Edited M.Medium.meaning (told_of key (λ _. Changed)) at change key (F.Forms.bytes value.now) (moment store.old slips.now work.old) (moment store.new slips.now work.new) result }
-{
-    let slip = slips.get(at).ok_or(Denied::NoSlip)?;
-    let mut buffer = [0; 200];
-    let bytes = bytes_of(value, &mut buffer);
-    apply(store, work, slip, change, key, bytes).map_err(|refusal| Denied::Form { key, refusal })?;
-    Ok(Done::Changed)
+impl<'a, M: Medium> Desk<'a, M> {
+    // Makes a change under the slip at a place, and tells what it answers.
+    pub(super) fn edit<F>(
+        &mut self,
+        place: usize,
+        change: Change,
+        key: u32,
+        value: &[u8],
+    ) -> Result<Done<F>, Denied>
+        requires { change ≡ Remove → length value.now ≤ 200 }
+        ensures edited { Edited M.Medium.meaning (told (λ _. Changed)) place change key value.now (at_desk self.old) (at_desk self.new) result }
+        ensures slips { self.new.slips.now ≡ self.old.slips.now }
+        ensures same { SameDesk self.old self.new }
+    {
+        let slip = self.slips.get(place).ok_or(Denied::NoSlip)?;
+        apply(self.store, self.work, slip, change, key, value)?;
+        Ok(Done::Changed)
+    }
+
+    // Makes a change to a form's value, likewise.
+    pub(super) fn edit_form<F: Forms>(
+        &mut self,
+        place: usize,
+        change: Change,
+        key: u32,
+        value: &F,
+    ) -> Result<Done<F>, Denied>
+        ensures edited { Edited M.Medium.meaning (told_of key (λ _. Changed)) place change key (F.Forms.bytes value.now) (at_desk self.old) (at_desk self.new) result }
+        ensures slips { self.new.slips.now ≡ self.old.slips.now }
+        ensures same { SameDesk self.old self.new }
+    {
+        let slip = self.slips.get(place).ok_or(Denied::NoSlip)?;
+        let mut buffer = [0; 200];
+        let bytes = bytes_of(value, &mut buffer);
+        apply(self.store, self.work, slip, change, key, bytes).map_err(|refusal| Denied::Form {
+            key,
+            refusal,
+        })?;
+        Ok(Done::Changed)
+    }
 }

@@ -4,7 +4,7 @@ ghost use Rattle.book.specs.Theorem.{Secure};
 ghost use Rattle.book.specs.Uses.{Ran, moment};
 
 use super::call::{Call, Denied, Done};
-use super::make::make;
+use super::desk::Desk;
 use super::slips::Slips;
 use form::Forms;
 use medium::Medium;
@@ -24,8 +24,9 @@ pub fn run<M: Medium, F: Forms + Drop>(
 {
     slips.reserve(calls.len())?;
     let mut answers = Vec::with_capacity(heap, calls.len())?;
+    let mut desk = Desk { store, slips, work };
     for call in calls {
-        answers.push_reserved(make(store, slips, work, call));
+        answers.push_reserved(desk.make(call));
     }
     Ok(answers)
 }
