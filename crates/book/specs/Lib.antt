@@ -1,4 +1,5 @@
 pub mod Books
 pub mod Keeps
+pub mod Lines
 pub mod Theorem
 pub mod Uses

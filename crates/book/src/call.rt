@@ -6,7 +6,7 @@ use form::BadByte;
 use store::{Opened, Place, Refusal};
 
 // A call. A slip is named by its place among those that were given; F has the values of the forms, and K their kinds.
-#[derive(Drop)]
+#[derive(Drop, PartialEq, Eq, Debug)]
 pub enum Call<F, K> {
     Open,
     Begin,

@@ -5,6 +5,7 @@ mod call;
 mod desk;
 mod make;
 mod reads;
+mod shown;
 mod slips;
 mod under;
 mod uses;
