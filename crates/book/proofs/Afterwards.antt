@@ -1,5 +1,5 @@
 -- What comes after a cut.
-use Rattle.std.proofs.Common.{◌≡◌, ℕ, ◌<◌, ◌≤◌, true, false, List, [], ◌∷◌, length, Some, None, Ok, Err, Result, sym, refl, ap, ◌∙◌, subst, inl, inr, arith}
+use Rattle.std.proofs.Common.{rules, ◌≡◌, ℕ, ◌<◌, ◌≤◌, true, false, List, [], ◌∷◌, length, Some, None, Ok, Err, Result, sym, refl, ap, ◌∙◌, subst, inl, inr, arith}
 use Rattle.octets.specs.Files.{File, word}
 use Rattle.octets.proofs.Words.{words_same}
 use Rattle.medium.specs.Cuts.{CutFile, shown_file}
@@ -20,7 +20,7 @@ use Rattle.store.specs.Opening.{Clears, later_pages}
 use Rattle.store.specs.Opens.{First, OpenStopped, Opens}
 use Rattle.book.specs.declared.call.Call.TheVariants.{LookForm}
 use Rattle.book.specs.declared.call.Done.TheVariants.{Value}
-use Rattle.book.specs.Books.{Book, Values, opening}
+use Rattle.book.specs.Books.{Book, Says, Values, opening}
 use Rattle.book.specs.Keeps.{Found, Has, Keeps, Later}
 use Rattle.book.specs.Theorem.{Kept, OpensAlike, ReadsForms, Reopens}
 use Rattle.book.specs.Uses.{Answer, Makes, Moment, Reads}
@@ -135,16 +135,7 @@ opens_alike meaning sized a b n o s t u touched work new page again x r k keeps 
 -- bytes that a form reads as a value are told as that value
 reads_value : {M F : Type 0} (reads : List ℕ → Result F BadByte) (key : ℕ) (a b : Moment M) (bytes : List ℕ) (value : F) (x : Result Place Refusal) (r : Answer F)
     → reads bytes ≡ Ok value → (p : Place) × (x ≡ Ok p) × (value_at b.work p ≡ bytes) → Reads reads key a b x r → r ≡ Ok (Value value)
-reads_value reads key a b bytes value (Err e) r there (p, is, _) told = absurd cc
-reads_value reads key a b bytes value (Ok p) r there (p', is, at) (inl (v, e, told)) =
-    let place : p ≡ p' = cc in
-    let read : Ok v ≡ Ok value = sym e ∙ ap (λ p. reads (value_at b.work p)) place ∙ ap reads at ∙ there in
-    let same : v ≡ value = cc in
-    told ∙ ap (λ v. Ok (Value v)) same
-reads_value reads key a b bytes value (Ok p) r there (p', is, at) (inr (bad, e, _)) =
-    let place : p ≡ p' = cc in
-    let read : Err bad ≡ Ok value = sym e ∙ ap (λ p. reads (value_at b.work p)) place ∙ ap reads at ∙ there in
-    absurd cc
+reads_value reads key a b bytes value x r there found told = search rules
 
 module _ {M F K : Type 0} (meaning : M → Meaning) (sized : (x : M) → Sized (meaning x)) (kind : F → K) (bytes : F → List ℕ)
     (reads : K → List ℕ → Result F BadByte) (there : (v : F) → reads (kind v) (bytes v) ≡ Ok v) where
@@ -168,17 +159,9 @@ pub reads_forms : {M F K : Type 0} (meaning : M → Meaning) → ((x : M) → Si
     → ReadsForms meaning kind bytes reads a.store.medium k
 reads_forms meaning sized kind bytes reads there a k kept n o t cut again =
     let left = survives meaning sized a.store.medium a.store.state (touched_by a.store.edit) k kept (shown_file (meaning n)) cut.left in
+    let told = λ (v : Values) (says : Says (shown_file (meaning n)) v).
+    after_reads meaning sized kind bytes reads there n o t v (record { only = cut.only; sound = left.0; says = says }) again in
     elim left.1 [
-      | inl says ↦ (
-        k.saved,
-        inl refl,
-        says,
-        after_reads meaning sized kind bytes reads there n o t k.saved (record { only = cut.only; sound = left.0; says = says }) again,
-      )
-      | inr (either, says) ↦ (
-        k.draft,
-        inr (either, refl),
-        says,
-        after_reads meaning sized kind bytes reads there n o t k.draft (record { only = cut.only; sound = left.0; says = says }) again,
-      )
+      | inl says ↦ (k.saved, inl refl, says, told k.saved says)
+      | inr (either, says) ↦ (k.draft, inr (either, refl), says, told k.draft says)
     ]

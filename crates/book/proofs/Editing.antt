@@ -1,8 +1,9 @@
 -- A change under a slip keeps the store to its book.
-use Rattle.std.proofs.Common.{◌≡◌, ℕ, ◌+◌, ◌^◌, ◌<◌, ◌≤◌, true, cond, eqb, ltb, List, [], ◌∷◌, ◌++◌, length, Ok, Err, Result, sym, refl, ap, ◌∙◌, subst, inl, inr, arith}
+use Rattle.std.proofs.Common.{rules, ◌≡◌, ℕ, ◌+◌, ◌^◌, ◌<◌, ◌≤◌, true, cond, eqb, ltb, List, [], ◌∷◌, ◌++◌, length, Ok, Err, Result, sym, refl, ap, ◌∙◌, subst, inl, inr, arith}
 use Rattle.std.specs.List.{AllByRecursion}
 use Rattle.std.proofs.lemmas.List.{append-nil, drop_all}
 use Rattle.std.proofs.lemmas.Bool.{and_from, cases_eq, cond_both, cond-false, eqb-true, lt-ltb, ltb-false, ne_eqb, true≢false}
+use Rattle.std.proofs.lemmas.Bool.Decides.{nat_tests}
 use Rattle.octets.specs.Parts.{patched}
 use Rattle.medium.specs.declared.fault.MediumFault.{MediumFault}
 use Rattle.medium.specs.declared.fault.MediumFault.TheVariants.{BadRun, Stopped}
@@ -31,23 +32,17 @@ use Rattle.book.proofs.Resting.{rests_gains, stands_patched}
 -- a page is among those it was added to
 has_added : (q : ℕ) (ts : List ℕ) → Has q (added q ts)
 has_added q [] = inl refl
-has_added q (t ∷ ts) =
-    cond_both (eqb q t) _ _ (Has q) (λ e. inl (eqb-true q t e))
-    (λ _. cond_both (ltb q t) _ _ (Has q) (λ _. inl refl) (λ _. inr (has_added q ts)))
+has_added q (t ∷ ts) = search (rules, has_added q ts, nat_tests)
 
 -- and the others are still among them
 has_before : (p q : ℕ) (ts : List ℕ) → Has p ts → Has p (added q ts)
 has_before p q [] h = elim h [ ]
-has_before p q (t ∷ ts) h =
-    cond_both (eqb q t) _ _ (Has p) (λ _. h)
-    (λ _. cond_both (ltb q t) _ _ (Has p) (λ _. inr h) (λ _. elim h [ inl e ↦ inl e | inr i ↦ inr (has_before p q ts i) ]))
+has_before p q (t ∷ ts) h = search (rules, has_before p q ts, nat_tests)
 
 -- what holds of all of them and of the page added holds of all
 all_added : (P : ℕ → Type 0) (q : ℕ) (ts : List ℕ) → P q → AllByRecursion P ts → AllByRecursion P (added q ts)
 all_added P q [] x h = (x, tt)
-all_added P q (t ∷ ts) x h =
-    cond_both (eqb q t) _ _ (AllByRecursion P) (λ _. h)
-    (λ _. cond_both (ltb q t) _ _ (AllByRecursion P) (λ _. (x, h)) (λ _. (h.0, all_added P q ts x h.1)))
+all_added P q (t ∷ ts) x h = search (rules, all_added P q ts, cond_both)
 
 -- a whole page put in place of another
 patched_whole : (page new : List ℕ) → length page ≤ length new → patched page 0 new ≡ new

@@ -1,5 +1,5 @@
 -- Opening keeps the store to its book.
-use Rattle.std.proofs.Common.{◌⊎◌, ◌≡◌, ℕ, ◌<◌, ◌≤◌, true, false, List, None, Ok, Err, sym, refl, ap, ◌∙◌, inl, inr, arith}
+use Rattle.std.proofs.Common.{rules, ◌⊎◌, ◌≡◌, ℕ, ◌<◌, ◌≤◌, true, false, List, None, Ok, Err, sym, refl, ap, ◌∙◌, inl, inr, arith}
 use Rattle.octets.specs.Files.{File}
 use Rattle.octets.proofs.Words.{words_same}
 use Rattle.medium.specs.declared.fault.MediumFault.TheVariants.{BadRun, Stopped}
@@ -171,9 +171,7 @@ module _ {M : Type 0} (meaning : M → Meaning) (sized : (x : M) → Sized (mean
 
 -- fewer than two pages: only a store that was shut can meet them
 few_keeps : (m : Meaning) (s : State) (touched : List ℕ) (k : Book) → Keeps m s touched k → Idle s → m.pages < 2 → Keeps m Shut touched k
-few_keeps m Shut touched k keeps idle few = keeps
-few_keeps m (Open first) touched k (base, rests, _) idle few = absurd (omega (arith, rests.sound.least, rests.sound.there))
-few_keeps m (Editing first) touched k keeps idle few = absurd idle
+few_keeps m s touched k keeps idle few = search rules
 
 -- opening changes nothing of the book, whatever it answers
 pub open_keeps : {M : Type 0} (meaning : M → Meaning) → ((x : M) → Sized (meaning x)) → OpenKeeps meaning

@@ -1,6 +1,6 @@
 -- Saving keeps a store to its book.
-use Rattle.std.proofs.Common.{◌≡◌, ℕ, ◌+◌, ◌<◌, true, ◌&&◌, List, length, Ok, Err, sym, refl, ap, ◌∙◌, subst, inl, inr, arith}
-use Rattle.std.proofs.lemmas.Bool.{false≢true, lt-ltb}
+use Rattle.std.proofs.Common.{rules, ◌≡◌, ℕ, ◌+◌, ◌<◌, true, ◌&&◌, List, length, Ok, Err, sym, refl, ap, ◌∙◌, subst, inl, inr, arith}
+use Rattle.std.proofs.lemmas.Bool.{both_ways, false≢true, lt-ltb}
 use Rattle.octets.specs.Numbers.{spell}
 use Rattle.octets.proofs.Numbers.{length_spell}
 use Rattle.medium.specs.declared.fault.MediumFault.{MediumFault}
@@ -28,8 +28,7 @@ counter_good pages number h = ap (good pages 0 8) (length_spell 4 number) ∙ ap
 -- a write of the counter is refused only by a medium that stops
 unwritten : (x b : Meaning) (number : ℕ) (f : MediumFault) → 0 < x.pages → Wrote x b 0 8 (spell 4 number) (Err f)
     → (b.stopped ≡ true) × Gains x b 0 8 (spell 4 number)
-unwritten x b number BadRun h (bad, _) = absurd (false≢true (sym bad ∙ counter_good x.pages number h))
-unwritten x b number Stopped h (_, stops, gains, _) = (stops, gains)
+unwritten x b number f h wrote = search (rules, both_ways, counter_good)
 
 -- an edit that is saved
 module _ {M : Type 0} (meaning : M → Meaning) (sized : (x : M) → Sized (meaning x)) (a b : M) (first : FirstPage) (touched : List ℕ) (k : Book)
@@ -51,7 +50,7 @@ module _ {M : Type 0} (meaning : M → Meaning) (sized : (x : M) → Sized (mean
             let says = between_says (meaning a) first keeps.0 k.saved k.draft keeps.1 keeps.2 run.0 run.2
             (meaning x) (meaning b) (sized x) settled gains file c in
             (says.0, elim says.1 [ inl old ↦ inl old | inr new ↦ inr (refl, new) ]),
-        λ runs. absurd (false≢true (sym runs ∙ stops)),
+        λ runs. absurd cc,
       )
 
   -- refused by the medium at any of the three steps
@@ -59,7 +58,7 @@ module _ {M : Type 0} (meaning : M → Meaning) (sized : (x : M) → Sized (mean
   refuses e (inl (f, is, (_, stops, none, _))) =
       rw is (
         rests_safe (meaning b) first keeps.0 (doubted k (Medium Settle 0 f)) (rests_on (meaning a) (meaning b) first keeps.0 k.saved none keeps.1),
-        λ runs. absurd (false≢true (sym runs ∙ stops)),
+        λ runs. absurd cc,
       )
   refuses e (inr (inl (x, settled, (f, is, wrote)))) =
       let there : 0 < (meaning x).pages = omega (arith, settled.2, keeps.1.sound.least, keeps.1.sound.there) in

@@ -156,7 +156,7 @@ module _ {M : Type 0} (meaning : M → Meaning) where
   applies_stop : (sized : (x : M) → Sized (meaning x)) (a b : M) (first : FirstPage) (e f : Edit) (change : Change) (key : ℕ) (value new : List ℕ) (k : Book) (x : Refusal)
       → key < 2 ^ 32 → length value ≤ 200 → Keeps (meaning a) (Editing first) (touched_by e) k
       → Applies meaning (page_change change key value) first.counter (page_of first.pages key) a b e f new (Err x) → Stops x
-  applies_stop sized a b first e f change key value new k x small short keeps (grants, inl (r, at, _, _, _)) = λ step page fault is. search rules
+  applies_stop sized a b first e f change key value new k x small short keeps (grants, inl h) = search rules
   applies_stop sized a b first e f change key value new k x small short keeps (grants, inr (done, ((y, at, wrote), _))) =
       let c = changes (meaning a) (meaning b) first (touched_by e) k change key value new (sized a) small short grants done keeps in
       wrote_stops (meaning a) (meaning b) (page_of first.pages key) 0 new y x
