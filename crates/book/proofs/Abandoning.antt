@@ -1,11 +1,12 @@
 -- Abandoning an edit keeps the store to its book.
-use Rattle.std.proofs.Common.{◌≡◌, ℕ, zero, suc, ◌<◌, Bool, true, false, List, [], ◌∷◌, length, get_or, take, Some, None, Ok, Err, sym, ap, ◌∙◌, subst, inl, inr, ⊎_elim, arith}
+use Rattle.std.proofs.Common.{◌≡◌, ℕ, zero, suc, ◌<◌, Bool, true, false, List, [], ◌∷◌, length, get_or, take, Some, None, Ok, Err, ap, subst, inl, inr, ⊎_elim, arith, Result}
+use Rattle.store.specs.declared.state.Edit.{Edit}
+use Rattle.store.specs.Ends.{Abandons}
 use Rattle.std.specs.List.{AllByRecursion}
 use Rattle.std.proofs.lemmas.Bool.{cases_Bool, cases_eq}
 use Rattle.octets.specs.Parts.{patched}
-use Rattle.medium.specs.declared.fault.MediumFault.{MediumFault}
 use Rattle.medium.specs.declared.fault.MediumFault.TheVariants.{BadRun, Stopped}
-use Rattle.medium.specs.Meaning.{Gains, Meaning, Sized, Wrote}
+use Rattle.medium.specs.Meaning.{Gains, Meaning, Sized}
 use Rattle.layout.specs.declared.first.FirstPage.{FirstPage}
 use Rattle.layout.specs.declared.header.Side.{Side}
 use Rattle.layout.specs.Pages.{start}
@@ -16,13 +17,12 @@ use Rattle.guard.proofs.Nearby.{near_words}
 use Rattle.guard.proofs.Stages.{takes_back}
 use Rattle.store.specs.declared.refusal.Refusal.{Refusal}
 use Rattle.store.specs.declared.state.State.{State}
-use Rattle.store.specs.declared.state.State.TheVariants.{Open, Editing}
+use Rattle.store.specs.declared.state.State.TheVariants.{Editing}
 use Rattle.store.specs.Clearing.{ClearsPage}
 use Rattle.store.specs.Edits.{touched_by}
 use Rattle.store.specs.Opening.{Clears}
 use Rattle.book.specs.Books.{Book, Values}
 use Rattle.book.specs.Keeps.{CleanBut, Keeps, Later, Rests, Stands}
-use Rattle.book.proofs.Steps.{AbandonKeeps}
 use Rattle.book.proofs.Cutting.{rests_safe}
 use Rattle.book.proofs.Resting.{rests_gains, rests_on, stands_patched}
 use Rattle.book.proofs.Runs.{number_bad}
@@ -119,7 +119,9 @@ leaving m s first touched k is keeps =
     let edit : Keeps m (Editing first) touched k = subst (λ s. Keeps m s touched k) is keeps in
     (edit.0, record { rests = edit.1; later = edit.3; runs = λ going. let now = edit.4 going in (now.0, now.1) })
 
-pub abandon_keeps : {M : Type 0} (meaning : M → Meaning) → ((x : M) → Sized (meaning x)) → AbandonKeeps meaning
+pub abandon_keeps : {M : Type 0} (meaning : M → Meaning) → ((x : M) → Sized (meaning x)) → (a b : M) (s t : State) (e : Edit) (number : ℕ)
+    (r : Result (Unit {0}) Refusal) (k : Book) → Keeps (meaning a) s (touched_by e) k → Abandons meaning number a b s t e r
+    → Keeps (meaning b) t (touched_by e) k
 abandon_keeps meaning sized a b s t e number (Ok _) k keeps (first, (is, _), then, (n, clears)) =
     let z = leaving (meaning a) s first (touched_by e) k is keeps in
     let gone = pages_leave meaning first z.0 k.saved (touched_by e) a b n z.1 clears in rw then (z.0, gone.rests, gone.runs)

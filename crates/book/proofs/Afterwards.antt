@@ -1,5 +1,5 @@
 -- What comes after a cut.
-use Rattle.std.proofs.Common.{rules, ◌≡◌, ℕ, ◌<◌, ◌≤◌, true, false, List, [], ◌∷◌, length, Some, None, Ok, Err, Result, sym, refl, ap, ◌∙◌, subst, inl, inr, arith}
+use Rattle.std.proofs.Common.{rules, ◌≡◌, ℕ, ◌<◌, ◌≤◌, true, false, List, [], ◌∷◌, length, Some, None, Ok, Err, Result, refl, ap, ◌∙◌, subst, inl, inr, arith}
 use Rattle.octets.specs.Files.{File, word}
 use Rattle.octets.proofs.Words.{words_same}
 use Rattle.medium.specs.Cuts.{CutFile, shown_file}

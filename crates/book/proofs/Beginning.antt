@@ -1,5 +1,9 @@
 -- Beginning an edit keeps the store to its book.
-use Rattle.std.proofs.Common.{◌≡◌, ℕ, ◌+◌, ◌^◌, ◌<◌, List, [], map, None, Ok, Err, ap, ◌∙◌, subst, inl, inr, arith, rules}
+use Rattle.std.proofs.Common.{◌≡◌, ℕ, ◌+◌, ◌^◌, ◌<◌, List, [], map, None, Ok, Err, ap, ◌∙◌, subst, inl, inr, arith, rules, Result}
+use Rattle.store.specs.declared.slip.Slip.{Slip}
+use Rattle.store.specs.declared.state.State.{State}
+use Rattle.store.specs.declared.state.Edit.{Edit}
+use Rattle.store.specs.declared.refusal.Refusal.{Refusal}
 use Rattle.medium.specs.Meaning.{Meaning, Sized}
 use Rattle.layout.specs.declared.first.FirstPage.{FirstPage}
 use Rattle.layout.specs.Pages.{entry_of, page_of, records}
@@ -8,10 +12,9 @@ use Rattle.guard.specs.Changes.{Drafted, value_in}
 use Rattle.guard.proofs.Nearby.{near_records}
 use Rattle.guard.proofs.Stages.{draft_all}
 use Rattle.store.specs.declared.state.State.TheVariants.{Open, Editing}
-use Rattle.store.specs.Edits.{touched_by}
-use Rattle.book.specs.Books.{Book}
+use Rattle.store.specs.Edits.{touched_by, Begins}
+use Rattle.book.specs.Books.{Book, begun}
 use Rattle.book.specs.Keeps.{CleanBut, Keeps, Later}
-use Rattle.book.proofs.Steps.{BeginKeeps}
 use Rattle.book.proofs.Ranges.{key_later}
 
 -- where no header is begun, the draft is what is saved
@@ -46,7 +49,8 @@ begins_edit m first touched ts k fits none (base, rests, runs) = (
       ),
 )
 
-pub begin_keeps : {M : Type 0} (meaning : M → Meaning) → ((x : M) → Sized (meaning x)) → BeginKeeps meaning
+pub begin_keeps : {M : Type 0} (meaning : M → Meaning) → ((x : M) → Sized (meaning x)) → (a : M) (s t : State) (e f : Edit) (r : Result Slip Refusal) (k : Book)
+    → Keeps (meaning a) s (touched_by e) k → Begins s t e f r → Keeps (meaning a) t (touched_by f) (begun k r)
 begin_keeps meaning sized a s t e f (Ok slip) k keeps (first, is, fits, number, then, changes, none) =
     rw then
     (begins_edit (meaning a) first (touched_by e) (touched_by f) k fits none (subst (λ s. Keeps (meaning a) s (touched_by e) k) is keeps))

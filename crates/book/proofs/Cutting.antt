@@ -10,10 +10,10 @@ use Rattle.layout.specs.Pages.{page_of, records}
 use Rattle.layout.specs.Sound.{FirstSound, Sound, SoundFile, counter_of, pages_of}
 use Rattle.guard.specs.Changes.{value_in}
 use Rattle.guard.proofs.Nearby.{guards}
+use Rattle.store.specs.declared.state.State.{State}
 use Rattle.store.specs.declared.state.State.TheVariants.{Shut, Open, Editing}
-use Rattle.book.specs.Books.{Book, Says, Values}
-use Rattle.book.specs.Keeps.{Found, Later, Rests, Safe}
-use Rattle.book.proofs.Steps.{Starts, Survives}
+use Rattle.book.specs.Books.{opening, Book, Says, Values}
+use Rattle.book.specs.Keeps.{Keeps, Found, Later, Rests, Safe}
 use Rattle.book.proofs.Ranges.{key_later}
 
 -- a file is sound and says these values if its first page tells so many pages and this counter, and each later page is sound
@@ -58,11 +58,13 @@ found_safe m sized v found f c =
     (λ q l. rw (same q (omega (arith, l.1, first.there))) (found.sound.pages q l.0 l.1, refl))
     found.says
 
-pub starts : {M : Type 0} (meaning : M → Meaning) → ((x : M) → Sized (meaning x)) → Starts meaning
+pub starts : {M : Type 0} (meaning : M → Meaning) → ((x : M) → Sized (meaning x)) → (a : M) (v : Values) (touched : List ℕ)
+    → Found (meaning a) v → Keeps (meaning a) Shut touched (opening v)
 starts meaning sized a v touched found =
     (λ f c. let s = found_safe (meaning a) (sized a) v found f c in (s.0, inl s.1), λ _. found)
 
-pub survives : {M : Type 0} (meaning : M → Meaning) → ((x : M) → Sized (meaning x)) → Survives meaning
+pub survives : {M : Type 0} (meaning : M → Meaning) → ((x : M) → Sized (meaning x)) → (a : M) (s : State) (touched : List ℕ) (k : Book)
+    → Keeps (meaning a) s touched k → Safe (meaning a) k
 survives meaning sized a Shut touched k keeps = keeps.0
 survives meaning sized a (Open first) touched k keeps = rests_safe (meaning a) first keeps.0 k keeps.1
 survives meaning sized a (Editing first) touched k keeps = rests_safe (meaning a) first keeps.0 k keeps.1

@@ -1,8 +1,8 @@
 -- A change under a slip keeps the store to its book.
-use Rattle.std.proofs.Common.{rules, ◌≡◌, ℕ, ◌+◌, ◌^◌, ◌<◌, ◌≤◌, true, cond, eqb, ltb, List, [], ◌∷◌, ◌++◌, length, Ok, Err, Result, sym, refl, ap, ◌∙◌, subst, inl, inr, arith}
+use Rattle.std.proofs.Common.{rules, ◌≡◌, ℕ, ◌+◌, ◌^◌, ◌<◌, ◌≤◌, true, cond, eqb, ltb, List, [], ◌∷◌, ◌++◌, length, Ok, Err, Result, sym, refl, ap, ◌∙◌, subst, inl, inr, arith, Some, None, Option}
 use Rattle.std.specs.List.{AllByRecursion}
 use Rattle.std.proofs.lemmas.List.{append-nil, drop_all}
-use Rattle.std.proofs.lemmas.Bool.{and_from, cases_eq, cond_both, cond-false, eqb-true, lt-ltb, ltb-false, ne_eqb, true≢false}
+use Rattle.std.proofs.lemmas.Bool.{and_from, cases_eq, cond_both, cond-false, lt-ltb, ltb-false, ne_eqb, true≢false}
 use Rattle.std.proofs.lemmas.Bool.Decides.{nat_tests}
 use Rattle.octets.specs.Parts.{patched}
 use Rattle.medium.specs.declared.fault.MediumFault.{MediumFault}
@@ -21,13 +21,18 @@ use Rattle.store.specs.declared.state.Edit.{Edit}
 use Rattle.store.specs.declared.state.State.{State}
 use Rattle.store.specs.declared.state.State.TheVariants.{Editing}
 use Rattle.store.specs.Access.{Grants}
-use Rattle.store.specs.Edits.{Applies, Ready, page_change, touched_by}
+use Rattle.store.specs.Edits.{Applies, Ready, page_change, touched_by, Edits}
 use Rattle.store.specs.Touches.{added}
 use Rattle.book.specs.Books.{Book, Values, edited, with}
 use Rattle.book.specs.Keeps.{CleanBut, Drafts, Has, Keeps, Later, Rests}
-use Rattle.book.proofs.Steps.{EditKeeps, entered}
 use Rattle.book.proofs.Ranges.{key_later}
 use Rattle.book.proofs.Resting.{rests_gains, stands_patched}
+
+-- the value that a change enters
+abbrev pub entered : Change → List ℕ → Option (List ℕ)
+entered Put value = Some value
+entered Replace value = Some value
+entered Remove value = None
 
 -- a page is among those it was added to
 has_added : (q : ℕ) (ts : List ℕ) → Has q (added q ts)
@@ -165,7 +170,10 @@ module _ {M : Type 0} (meaning : M → Meaning) (sized : (x : M) → Sized (mean
       (subst (λ s. Keeps (meaning a) s (touched_by e) k) ready.1.0 keeps) h)
 
 -- a change keeps the store to its book, whatever it answers
-pub edit_keeps : {M : Type 0} (meaning : M → Meaning) → ((x : M) → Sized (meaning x)) → EditKeeps meaning
+pub edit_keeps : {M : Type 0} (meaning : M → Meaning) → ((x : M) → Sized (meaning x)) → (a b : M) (s : State) (e f : Edit) (change : Change)
+    (key number : ℕ) (value work new : List ℕ) (r : Result (Unit {0}) Refusal) (k : Book) → key < 2 ^ 32 → Keeps (meaning a) s (touched_by e) k
+    → Edits meaning (page_change change key value) key number (ltb 200 (length value)) a b s e f work new r
+    → Keeps (meaning b) s (touched_by f) (edited k key (entered change value) r)
 edit_keeps meaning sized a b s e f change key number value work new (Ok u) k small keeps h =
     ready_applied meaning sized a b s h.0 e f change key number (length work) value new (Ok u) k small keeps h.1 h.2
 edit_keeps meaning sized a b s e f change key number value work new (Err x) k small keeps h = elim h [

@@ -15,6 +15,5 @@ pub mod SavedFirst
 pub mod SavedPages
 pub mod Saving
 pub mod Securing
-pub mod Steps
 pub mod Stopping
 pub mod Told

@@ -13,13 +13,12 @@ use Rattle.book.specs.declared.call.Denied.TheVariants.{NoSlip}
 use Rattle.book.specs.declared.call.Done.{Done}
 use Rattle.book.specs.declared.call.Done.TheVariants.{Changed}
 use Rattle.book.specs.Books.{Book, begun, edited, saved_by}
-use Rattle.book.proofs.Steps.{entered}
 use Rattle.book.specs.Theorem.{Kept, Survives, after_save, drafted, fed, fed_all, if_taken}
 use Rattle.book.specs.Uses.{Answer, Edited, Gives, Makes, Moment, OnlyReads, Ran, Slipless, told, told_of}
 use Rattle.book.proofs.Abandoning.{abandon_keeps}
 use Rattle.book.proofs.Beginning.{begin_keeps}
 use Rattle.book.proofs.Cutting.{survives}
-use Rattle.book.proofs.Editing.{edit_keeps}
+use Rattle.book.proofs.Editing.{edit_keeps, entered}
 use Rattle.book.proofs.Opening.{open_keeps}
 use Rattle.book.proofs.Saving.{save_keeps}
 

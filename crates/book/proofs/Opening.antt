@@ -1,5 +1,5 @@
 -- Opening keeps the store to its book.
-use Rattle.std.proofs.Common.{rules, ◌⊎◌, ◌≡◌, ℕ, ◌<◌, ◌≤◌, true, false, List, None, Ok, Err, sym, refl, ap, ◌∙◌, inl, inr, arith}
+use Rattle.std.proofs.Common.{Result, rules, ◌⊎◌, ◌≡◌, ℕ, ◌<◌, ◌≤◌, true, false, List, None, Ok, Err, sym, refl, ap, ◌∙◌, inl, inr, arith}
 use Rattle.octets.specs.Files.{File}
 use Rattle.octets.proofs.Words.{words_same}
 use Rattle.medium.specs.declared.fault.MediumFault.TheVariants.{BadRun, Stopped}
@@ -16,6 +16,7 @@ use Rattle.guard.proofs.Cleared.{clears}
 use Rattle.guard.proofs.Nearby.{near_words}
 use Rattle.store.specs.declared.refusal.Refusal.{Refusal}
 use Rattle.store.specs.declared.refusal.Refusal.TheVariants.{WorkPage, PageCount, NotAShowFile, Unsound, Medium, NotOpen, EditOpen, NoEdit, LastCounter, TooLong, TooMany, KeyInDraft, NoSuchKey, DraftFull, NoPlace}
+use Rattle.store.specs.declared.state.Opened.{Opened}
 use Rattle.store.specs.declared.state.State.{State}
 use Rattle.store.specs.declared.state.State.TheVariants.{Shut, Open, Editing}
 use Rattle.store.specs.Access.{Grants}
@@ -23,7 +24,6 @@ use Rattle.store.specs.Opening.{Clears, SoundOn, later_pages}
 use Rattle.store.specs.Opens.{Begun, Checked, First, Idle, OpenStopped, Opens}
 use Rattle.book.specs.Books.{Book, Says, Values}
 use Rattle.book.specs.Keeps.{Found, Keeps, Later, Rests, Safe, Stands}
-use Rattle.book.proofs.Steps.{OpenKeeps}
 use Rattle.book.proofs.Clearing.{Going, Spread, cleared_base, cleared_none, clears_all, clears_until, spread_on}
 use Rattle.book.proofs.Cutting.{file_says, rests_safe, survives}
 use Rattle.book.proofs.Ranges.{key_later}
@@ -174,7 +174,8 @@ few_keeps : (m : Meaning) (s : State) (touched : List ℕ) (k : Book) → Keeps 
 few_keeps m s touched k keeps idle few = search rules
 
 -- opening changes nothing of the book, whatever it answers
-pub open_keeps : {M : Type 0} (meaning : M → Meaning) → ((x : M) → Sized (meaning x)) → OpenKeeps meaning
+pub open_keeps : {M : Type 0} (meaning : M → Meaning) → ((x : M) → Sized (meaning x)) → (a b : M) (s t : State) (touched work new : List ℕ)
+    (r : Result Opened Refusal) (k : Book) → Keeps (meaning a) s touched k → Opens meaning a b s t work new r → Keeps (meaning b) t touched k
 open_keeps meaning sized a b s t touched work new (Ok o) k keeps (begun, (first, checked, (x, c, settled), is, _, _)) =
     rw is
     (open_opens meaning sized a b s touched work new k keeps begun first x o.cleared checked c settled)

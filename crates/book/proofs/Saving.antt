@@ -1,10 +1,11 @@
 -- Saving keeps a store to its book.
-use Rattle.std.proofs.Common.{rules, ◌≡◌, ℕ, ◌+◌, ◌<◌, true, ◌&&◌, List, length, Ok, Err, sym, refl, ap, ◌∙◌, subst, inl, inr, arith}
-use Rattle.std.proofs.lemmas.Bool.{both_ways, false≢true, lt-ltb}
+use Rattle.std.proofs.Common.{rules, ◌≡◌, ℕ, ◌+◌, ◌<◌, true, ◌&&◌, List, length, Ok, Err, refl, ap, ◌∙◌, subst, inl, inr, arith, Result}
+use Rattle.store.specs.declared.state.State.{State}
+use Rattle.store.specs.declared.state.Edit.{Edit}
+use Rattle.std.proofs.lemmas.Bool.{both_ways, lt-ltb}
 use Rattle.octets.specs.Numbers.{spell}
 use Rattle.octets.proofs.Numbers.{length_spell}
 use Rattle.medium.specs.declared.fault.MediumFault.{MediumFault}
-use Rattle.medium.specs.declared.fault.MediumFault.TheVariants.{BadRun, Stopped}
 use Rattle.medium.specs.Meaning.{Gains, Meaning, Settled, Sized, Wrote, good}
 use Rattle.layout.specs.declared.first.FirstPage.{FirstPage}
 use Rattle.store.specs.declared.refusal.Refusal.{Refusal}
@@ -13,10 +14,9 @@ use Rattle.store.specs.declared.refusal.Step.{Step}
 use Rattle.store.specs.declared.refusal.Step.TheVariants.{Settle, Write}
 use Rattle.store.specs.declared.state.State.TheVariants.{Editing, Open, Shut}
 use Rattle.store.specs.Edits.{touched_by}
-use Rattle.store.specs.Ends.{Commits}
-use Rattle.book.specs.Books.{Book, doubted}
+use Rattle.store.specs.Ends.{Commits, Saves}
+use Rattle.book.specs.Books.{Book, doubted, saved_by}
 use Rattle.book.specs.Keeps.{Keeps}
-use Rattle.book.proofs.Steps.{SaveKeeps}
 use Rattle.book.proofs.Cutting.{rests_safe}
 use Rattle.book.proofs.Resting.{rests_on}
 use Rattle.book.proofs.SavedPages.{between_says, saved_keeps}
@@ -70,7 +70,9 @@ module _ {M : Type 0} (meaning : M → Meaning) (sized : (x : M) → Sized (mean
       (between x Settle f settled stops (record { pages = none.pages ∙ g.pages; within = λ q k w p. g.within q k w (none.within q k w p) }))
 
 -- saving keeps a store to its book, whatever it answers
-pub save_keeps : {M : Type 0} (meaning : M → Meaning) → ((x : M) → Sized (meaning x)) → SaveKeeps meaning
+pub save_keeps : {M : Type 0} (meaning : M → Meaning) → ((x : M) → Sized (meaning x)) → (a b : M) (s t : State) (e : Edit) (number : ℕ)
+    (r : Result (ℕ × ℕ) Refusal) (k : Book) → Keeps (meaning a) s (touched_by e) k → Saves meaning number a b s t e r
+    → Keeps (meaning b) t (touched_by e) (saved_by k r)
 save_keeps meaning sized a b s t e number (Ok r) k keeps ((first, (at, is), (now, after, pages, counter)), commits, _, _) =
     rw after
     (accepts meaning sized a b first (touched_by e) k (subst (λ s. Keeps (meaning a) s (touched_by e) k) at keeps) now pages (counter ∙ is)
