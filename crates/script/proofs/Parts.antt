@@ -1,84 +1,56 @@
 -- A text cut where a byte first stands.
-use Rattle.std.proofs.Common.{◌≡◌, ℕ, zero, suc, ◌+◌, ◌-◌, ◌<◌, ◌≤◌, true, false, cond, eqb, List, [], ◌∷◌, length, get_or, take, drop, Some, None, Option, sym, refl, ap, ◌∙◌, arith, take_all, Bor}
+use Rattle.std.proofs.Common.{◌≡◌, ℕ, suc, ◌+◌, ◌-◌, ◌<◌, true, false, not, cond, eqb, ltb, List, [], ◌∷◌, length, take, drop, position, Some, None, IfSome, refl, arith}
 use Rattle.std.proofs.lemmas.Bool.Decides.{nat_tests}
-use Rattle.std.specs.Option.{option_map}
-use Rattle.std.proofs.lemmas.List.{drop_all, take_rest}
-use Rattle.script.specs.Parting.{up_to, after, after_word, after_line, or_nothing}
+use Rattle.std.proofs.lemmas.Grind.{common_steps}
+use Rattle.std.proofs.lemmas.List.{take_rest}
+use Rattle.std.proofs.lemmas.Option.{IfSome_then}
+use Rattle.std.specs.List.{position_or_len}
+use Rattle.script.specs.Parting.{up_to, after, or_nothing, after_line, after_word, words_left}
 
--- no `mark` stands before `r`
-abbrev pub Free : ℕ → ℕ → List ℕ → Type 0
-Free mark r bs = (k : ℕ) → k < r → get_or bs k 0 ≡ mark → ⊥
+up_to_first : (mark : ℕ) (bs : List ℕ) → up_to mark bs ≡ take (position_or_len (λ b. eqb b mark) bs) bs
+up_to_first mark [] = refl
+up_to_first mark (b ∷ bs) =
+    let e = up_to_first mark bs in
+    elim (eqb b mark) as (λ v. cond v [] (b ∷ up_to mark bs) ≡ take (cond (not v) (1 + position_or_len (λ x. eqb x mark) bs) 0) (b ∷ bs))
+    [ true ↦ refl | false ↦ grind (arith, common_steps) ]
 
-same : (b mark : ℕ) → b ≡ mark → eqb b mark ≡ true
-same b mark e = grind (arith, nat_tests, e)
+after_first : (mark : ℕ) (bs : List ℕ)
+    → after mark bs ≡ cond (ltb (position_or_len (λ b. eqb b mark) bs) (length bs)) (Some (drop (position_or_len (λ b. eqb b mark) bs + 1) bs)) None
+after_first mark [] = refl
+after_first mark (b ∷ bs) =
+    let e = after_first mark bs in
+    let P : ℕ = position_or_len (λ x. eqb x mark) bs in
+    elim (eqb b mark) as (λ v. cond v (Some bs) (after mark bs) ≡ cond (ltb (cond (not v) (1 + P) 0) (suc (length bs))) (Some (drop (cond (not v) (1 + P) 0 + 1) (b ∷ bs))) None)
+    [ true ↦ grind (arith, common_steps, nat_tests) | false ↦ grind (arith, common_steps, nat_tests) ]
 
-other : (b mark : ℕ) → (b ≡ mark → ⊥) → eqb b mark ≡ false
-other b mark e = grind (arith, nat_tests, e)
+-- where the byte was found, or where it was not
+pub found_front : (mark k : ℕ) (bs : List ℕ) → position (λ b. eqb b mark) bs ≡ Some k → take k bs ≡ up_to mark bs
+found_front mark k bs e = let p = up_to_first mark bs in grind (arith, common_steps, nat_tests)
 
-front : (mark r : ℕ) (bs : List ℕ) → r < length bs → get_or bs r 0 ≡ mark → Free mark r bs → up_to mark bs ≡ take r bs
-front mark r [] h e f = absurd (omega arith)
-front mark zero (b ∷ bs) h e f = ap (λ t. cond t [] (b ∷ up_to mark bs)) (same b mark e)
-front mark (suc r) (b ∷ bs) h e f =
-    ap (λ t. cond t [] (b ∷ up_to mark bs)) (other b mark (f 0 (omega arith)))
-    ∙ ap (λ l. b ∷ l) (front mark r bs (omega arith) e (λ k l. f (suc k) (omega arith)))
+pub found_back : (mark k : ℕ) (bs : List ℕ) → position (λ b. eqb b mark) bs ≡ Some k → Some (take (length bs - (k + 1)) (drop (k + 1) bs)) ≡ after mark bs
+found_back mark k bs e = let p = after_first mark bs in rw take_rest (grind (arith, common_steps, nat_tests))
 
-back : (mark r : ℕ) (bs : List ℕ) → r < length bs → get_or bs r 0 ≡ mark → Free mark r bs → after mark bs ≡ Some (drop (suc r) bs)
-back mark r [] h e f = absurd (omega arith)
-back mark zero (b ∷ bs) h e f = ap (λ t. cond t (Some bs) (after mark bs)) (same b mark e)
-back mark (suc r) (b ∷ bs) h e f =
-    ap (λ t. cond t (Some bs) (after mark bs)) (other b mark (f 0 (omega arith)))
-    ∙ back mark r bs (omega arith) e (λ k l. f (suc k) (omega arith))
+pub missed_front : (mark : ℕ) (bs : List ℕ) → position (λ b. eqb b mark) bs ≡ None → bs ≡ up_to mark bs
+missed_front mark bs e = let p = up_to_first mark bs in grind (arith, common_steps, nat_tests)
 
-whole : (mark : ℕ) (bs : List ℕ) → Free mark (length bs) bs → up_to mark bs ≡ bs
-whole mark [] f = refl
-whole mark (b ∷ bs) f =
-    ap (λ t. cond t [] (b ∷ up_to mark bs)) (other b mark (f 0 (omega arith)))
-    ∙ ap (λ l. b ∷ l) (whole mark bs (λ k l. f (suc k) (omega arith)))
+pub missed_back : (mark : ℕ) (bs : List ℕ) → position (λ b. eqb b mark) bs ≡ None → None ≡ after mark bs
+missed_back mark bs e = let p = after_first mark bs in grind (arith, common_steps, nat_tests)
 
-no_back : (mark : ℕ) (bs : List ℕ) → Free mark (length bs) bs → after mark bs ≡ None
-no_back mark [] f = refl
-no_back mark (b ∷ bs) f =
-    ap (λ t. cond t (Some bs) (after mark bs)) (other b mark (f 0 (omega arith)))
-    ∙ no_back mark bs (λ k l. f (suc k) (omega arith))
+-- what comes after a line or a word is shorter
+after_less : (mark : ℕ) (bs : List ℕ) → IfSome (after mark bs) (λ left. length left < length bs)
+after_less mark [] = tt
+after_less mark (b ∷ bs) =
+    let less = after_less mark bs in
+    elim (eqb b mark) as (λ v. IfSome (cond v (Some bs) (after mark bs)) (λ left. length left < suc (length bs)))
+    [ true ↦ omega arith | false ↦ IfSome_then (after mark bs) less (λ left h. omega arith) ]
 
--- the byte was found
-pub found_front : (mark r : ℕ) (bs : List ℕ) → r < length bs → get_or bs r 0 ≡ mark → Free mark r bs → take r bs ≡ up_to mark bs
-found_front mark r bs h e f = sym (front mark r bs h e f)
+pub line_less : (bs : List ℕ) → false ≡ eqb (length bs) 0 → length (after_line bs) < length bs
+line_less bs h =
+    let some : 0 < length bs = grind (arith, nat_tests, h) in
+    elim (after 10 bs) as (λ o. IfSome o (λ left. length left < length bs) → length (or_nothing o) < length bs)
+    [ None ↦ (λ _. some) | Some left ↦ (λ l. l) ] (after_less 10 bs)
 
-pub found_back : (mark r : ℕ) (bs : List ℕ) → r < length bs → get_or bs r 0 ≡ mark → Free mark r bs → after mark bs ≡ Some (drop (r + 1) bs)
-found_back mark r bs h e f = let p : suc r ≡ r + 1 = omega arith in back mark r bs h e f ∙ ap (λ k. Some (drop k bs)) p
-
--- it was not
-pub missed_front : (mark r : ℕ) (bs : List ℕ) → length bs ≤ r → Free mark r bs → take (length bs) bs ≡ up_to mark bs
-missed_front mark r bs h f = take_all (length bs) bs (omega arith) ∙ sym (whole mark bs (λ k l. f k (omega arith)))
-
-pub missed_back : (mark r : ℕ) (bs : List ℕ) → length bs ≤ r → Free mark r bs → after mark bs ≡ None
-missed_back mark r bs h f = no_back mark bs (λ k l. f k (omega arith))
-
--- a line that no line feed ends, and one that one does
-pub no_lines : (bs : List ℕ) → true ≡ eqb (length bs) 0 → bs ≡ []
-no_lines [] e = refl
-no_lines (b ∷ bs) e = grind (arith, nat_tests, e)
-
-pub last_line : (bs : List ℕ) (n : ℕ) → n ≡ length bs → take n bs ≡ up_to 10 bs → (length bs ≤ n → after 10 bs ≡ None)
-    → (bs ≡ up_to 10 bs) × (take (length bs - n) (drop n bs) ≡ after_line bs)
-last_line bs n e p q =
-    (sym (take_all n bs (omega (arith, e))) ∙ p, take_rest bs n ∙ drop_all n bs (omega (arith, e)) ∙ ap or_nothing (sym (q (omega (arith, e)))))
-
-pub next_line : (bs : List ℕ) (n : ℕ) → n ≤ length bs → (n ≡ length bs → ⊥) → take n bs ≡ up_to 10 bs → (n < length bs → after 10 bs ≡ Some (drop (n + 1) bs))
-    → (take n bs ≡ up_to 10 bs) × (take (length bs - (n + 1)) (drop (n + 1) bs) ≡ after_line bs)
-next_line bs n h e p q = (p, take_rest bs (n + 1) ∙ ap or_nothing (sym (q (omega (arith, e)))))
-
--- a word that is the last, and one that is not
-pub word_at : (o : Option (Bor (List ℕ))) (w : Bor (List ℕ)) (x : List ℕ) → o ≡ Some w → x ≡ up_to 32 w.now → Some x ≡ option_map (up_to 32) (option_map (λ x. x.now) o)
-word_at o w x e p = ap Some p ∙ ap (λ z. option_map (up_to 32) (option_map (λ x. x.now) z)) (sym e)
-
-pub left_at : (o : Option (Bor (List ℕ))) (w : Bor (List ℕ)) (p : Option (List ℕ)) → o ≡ Some w → after 32 w.now ≡ p → p ≡ after_word (option_map (λ x. x.now) o)
-left_at o w p e q = sym q ∙ ap (λ z. after_word (option_map (λ x. x.now) z)) (sym e)
-
-pub all_of : (bs xs : List ℕ) (n : ℕ) → n ≡ length bs → take n bs ≡ xs → bs ≡ xs
-all_of bs xs n e p = sym (take_all n bs (omega (arith, e))) ∙ p
-
-pub left_of : (bs : List ℕ) (n : ℕ) → n ≤ length bs → (n ≡ length bs → ⊥) → (n < length bs → after 32 bs ≡ Some (drop (n + 1) bs))
-    → after 32 bs ≡ Some (take (length bs - (n + 1)) (drop (n + 1) bs))
-left_of bs n h e q = q (omega (arith, e)) ∙ ap Some (sym (take_rest bs (n + 1)))
+pub word_less : (left : List ℕ) → words_left (after_word (Some left)) < words_left (Some left)
+word_less left =
+    elim (after 32 left) as (λ o. IfSome o (λ rest. length rest < length left) → words_left o < words_left (Some left))
+    [ None ↦ (λ _. omega arith) | Some rest ↦ (λ l. omega arith) ] (after_less 32 left)

@@ -1,5 +1,5 @@
 -- A text in two at a byte's first place.
-use Rattle.std.specs.Prelude.{ℕ, cond, List, [], ◌∷◌, Some, None, Option, ◌==◌}
+use Rattle.std.specs.Prelude.{ℕ, ◌+◌, cond, List, [], ◌∷◌, length, Some, None, Option, ◌==◌}
 use Rattle.script.specs.Spelled.{number_of}
 
 -- the bytes before the first `mark`, or all
@@ -16,6 +16,11 @@ after mark (b ∷ bs) = cond (b == mark) (Some bs) (after mark bs)
 abbrev pub after_word : Option (List ℕ) → Option (List ℕ)
 after_word None = None
 after_word (Some left) = after 32 left
+
+-- more than the words of what is left of a line: a word goes with a byte, or with the end
+abbrev pub words_left : Option (List ℕ) → ℕ
+words_left None = 0
+words_left (Some left) = length left + 1
 
 -- what comes after the next line of what is left of a text: nothing, where no line feed ends it
 abbrev pub or_nothing : Option (List ℕ) → List ℕ

@@ -1,26 +1,29 @@
 // A text's lines, and a line's words.
-ghost use Rattle.std.specs.Prelude.{◌≡◌, ℕ, ◌+◌, ◌^◌, ◌<◌, ◌≤◌, true, false, not, [], length, take, drop, is_some, Some, None, MatchOption};
+ghost use Rattle.std.specs.Prelude.{◌≡◌, ◌==◌, true, false, not, [], length, position, is_some, Some, None, MatchOption};
+ghost use Rattle.std.specs.Iterator.{at_most};
 ghost use Rattle.std.specs.Option.{option_map};
 ghost use Rattle.script.specs.Faults.{Read};
-ghost use Rattle.script.specs.Parting.{up_to, after, after_word, after_line, word_number};
+ghost use Rattle.script.specs.Parting.{up_to, after, after_word, after_line, words_left, word_number};
 
 use super::fault::Fault;
 use super::numbers::number;
 
-// Where a byte first stands, or the length.
-fn find(text: &[u8], mark: u8) -> usize
-    ensures bound { result ≤ length text.now }
-    ensures fits { length text.now < 2 ^ 64 }
-    ensures front { take result text.now ≡ up_to mark text.now }
-    ensures back { result < length text.now → after mark text.now ≡ Some (drop (result + 1) text.now) }
-    ensures none { length text.now ≤ result → after mark text.now ≡ None }
+// Where a byte first stands.
+fn find(text: &[u8], mark: u8) -> Option<usize>
+    ensures { result ≡ position (λ b. b == mark) text.now }
 {
-    for k in 0..text.len() {
-        if text[k] == mark {
-            return k;
-        }
+    text.iter().position(|b| *b == mark)
+}
+
+// What stands before a byte's first place, and what stands after it, if it is there.
+fn cut(text: &[u8], mark: u8) -> (&[u8], Option<&[u8]>)
+    ensures front { result.0.now ≡ up_to mark text.now }
+    ensures back { option_map (λ x. x.now) result.1 ≡ after mark text.now }
+{
+    match find(text, mark) {
+        Some(k) => (&text[..k], Some(&text[k + 1..])),
+        None => (text, None),
     }
-    text.len()
 }
 
 // The lines of a text that are yet to come. A last one without a line feed is a line too.
@@ -36,22 +39,23 @@ impl<'a> Lines<'a> {
     {
         Lines { rest: text }
     }
+}
+
+impl<'a> Iterator for Lines<'a> {
+    type Item = &'a [u8];
+
+    ghost next_gives = { λ s r t. MatchOption r (s.rest.now ≡ []) (λ line. (line.now ≡ up_to 10 s.rest.now) × (t.rest.now ≡ after_line s.rest.now)) };
+
+    ghost remaining = { λ s. at_most (length s.rest.now) };
 
     // The next line, without its line feed.
-    pub fn next(&mut self) -> Option<&'a [u8]>
-        ensures { MatchOption result (self.old.rest.now ≡ []) (λ line. (line.now ≡ up_to 10 self.old.rest.now) × (self.new.rest.now ≡ after_line self.old.rest.now)) }
-    {
-        let rest = self.rest;
-        if rest.is_empty() {
+    fn next(&mut self) -> Option<&'a [u8]> {
+        if self.rest.is_empty() {
             return None;
         }
-        let end = find(rest, b'\n');
-        if end == rest.len() {
-            self.rest = &rest[end..];
-            return Some(rest);
-        }
-        self.rest = &rest[end + 1..];
-        Some(&rest[..end])
+        let (line, rest) = cut(self.rest, b'\n');
+        self.rest = rest.unwrap_or(&[]);
+        Some(line)
     }
 }
 
@@ -70,29 +74,12 @@ impl<'a> Words<'a> {
         Words { rest: Some(line) }
     }
 
-    // The next word.
-    pub fn next(&mut self) -> Option<&'a [u8]>
-        ensures word { option_map (λ x. x.now) result ≡ option_map (up_to 32) (option_map (λ x. x.now) self.old.rest) }
-        ensures left { option_map (λ x. x.now) self.new.rest ≡ after_word (option_map (λ x. x.now) self.old.rest) }
-    {
-        let Some(rest) = self.rest else {
-            return None;
-        };
-        let end = find(rest, b' ');
-        if end == rest.len() {
-            self.rest = None;
-            return Some(rest);
-        }
-        self.rest = Some(&rest[end + 1..]);
-        Some(&rest[..end])
-    }
-
     // The next word, which stays.
     pub fn peek(&self) -> Option<&'a [u8]>
         ensures { option_map (λ x. x.now) result ≡ option_map (up_to 32) (option_map (λ x. x.now) self.now.rest) }
     {
-        let mut ahead = *self;
-        ahead.next()
+        let (word, _) = cut(self.rest?, b' ');
+        Some(word)
     }
 
     // Whether no word is left.
@@ -103,15 +90,27 @@ impl<'a> Words<'a> {
     }
 }
 
+impl<'a> Iterator for Words<'a> {
+    type Item = &'a [u8];
+
+    ghost next_gives = { λ s r t. (option_map (λ x. x.now) r ≡ option_map (up_to 32) (option_map (λ x. x.now) s.rest)) × (option_map (λ x. x.now) t.rest ≡ after_word (option_map (λ x. x.now) s.rest)) };
+
+    ghost remaining = { λ s. at_most (words_left (option_map (λ x. x.now) s.rest)) };
+
+    // The next word.
+    fn next(&mut self) -> Option<&'a [u8]> {
+        let (word, rest) = cut(self.rest?, b' ');
+        self.rest = rest;
+        Some(word)
+    }
+}
+
 // The next word, where there must be one.
 pub fn next_word<'a>(words: &mut Words<'a>) -> Result<&'a [u8], Fault>
     ensures word { Read result (λ word. option_map (up_to 32) (option_map (λ x. x.now) words.old.rest) ≡ Some word.now) (option_map (λ x. x.now) words.old.rest ≡ None) }
     ensures left { option_map (λ x. x.now) words.new.rest ≡ after_word (option_map (λ x. x.now) words.old.rest) }
 {
-    match words.next() {
-        Some(word) => Ok(word),
-        None => Err(Fault::Bad),
-    }
+    words.next().ok_or(Fault::Bad)
 }
 
 // The next word as a number.
@@ -119,13 +118,8 @@ pub fn next_number(words: &mut Words) -> Result<u32, Fault>
     ensures number { Read result (λ n. word_number (option_map (λ x. x.now) words.old.rest) ≡ Some n) (word_number (option_map (λ x. x.now) words.old.rest) ≡ None) }
     ensures left { option_map (λ x. x.now) words.new.rest ≡ after_word (option_map (λ x. x.now) words.old.rest) }
 {
-    let Some(word) = words.next() else {
-        return Err(Fault::Bad);
-    };
-    match number(word) {
-        Some(n) => Ok(n),
-        None => Err(Fault::Bad),
-    }
+    let word = words.next().ok_or(Fault::Bad)?;
+    number(word).ok_or(Fault::Bad)
 }
 
 // That a line ends here.
