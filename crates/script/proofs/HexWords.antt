@@ -1,6 +1,11 @@
 -- Bytes, two digits at a time.
-use Rattle.std.proofs.Common.{◌≡◌, ℕ, ◌+◌, ◌*◌, ◌/◌, ◌%◌, ◌<◌, ◌≤◌, false, eqb, List, [], ◌∷◌, ◌++◌, length, get_or, drop, Some, None, Option, sym, refl, ap, ◌∙◌, true≢false, append_assoc, arith}
-use Rattle.std.proofs.lemmas.List.{drop_more, drop_all, append-nil}
+use Rattle.std.proofs.Common.{◌≡◌, ℕ, zero, suc, ◌+◌, ◌*◌, ◌/◌, ◌%◌, ◌<◌, ◌≤◌, true, false, eqb, List, [], ◌∷◌, ◌++◌, length, get_or, drop, is_err, Ok, Err, Result, Some, None, Option, sym, refl, ap, ◌∙◌, true≢false, append_assoc, arith}
+use Rattle.std.proofs.lemmas.List.{at_drop_more, drop_all, append-nil}
+use Rattle.std.proofs.lemmas.Bool.Decides.{nat_tests}
+use Rattle.std.specs.Simd.{first_chunks}
+use Rattle.script.specs.declared.fault.Fault.{Fault}
+use Rattle.script.specs.declared.fault.Fault.TheVariants.{Bad, Memory}
+use Rattle.script.specs.Faults.{Read}
 use Rattle.script.specs.Spelled.{on_digit, hex_byte, behind, hex_bytes, hex_of}
 
 -- bytes before others, where those are any
@@ -12,54 +17,61 @@ moved : (acc : List ℕ) (x : ℕ) (o : Option (List ℕ)) → prefixed acc (beh
 moved acc x None = refl
 moved acc x (Some bs) = ap Some (sym (append_assoc acc (x ∷ []) bs))
 
-two : (w : List ℕ) (k : ℕ) → 2 * k + 1 < length w → drop (2 * k) w ≡ get_or w (2 * k) 0 ∷ get_or w (2 * k + 1) 0 ∷ drop (2 * (k + 1)) w
-two w k h =
-    let e : 2 * k + 1 + 1 ≡ 2 * (k + 1) = omega arith in
-    drop_more w (2 * k) 0 (omega arith)
-    ∙ ap (λ l. get_or w (2 * k) 0 ∷ l) (drop_more w (2 * k + 1) 0 h ∙ ap (λ n. get_or w (2 * k + 1) 0 ∷ drop n w) e)
+-- the bytes of pairs of digits
+abbrev pub of_pairs : List (List ℕ) → Option (List ℕ)
+of_pairs [] = Some []
+of_pairs (p ∷ ps) = on_digit (hex_byte (get_or p 0 0) (get_or p 1 0)) (λ x. behind x (of_pairs ps))
 
-put_more : (w acc : List ℕ) (k x : ℕ) → 2 * k + 1 < length w → Some x ≡ hex_byte (get_or w (2 * k) 0) (get_or w (2 * k + 1) 0)
-    → prefixed acc (hex_bytes (drop (2 * k) w)) ≡ prefixed (acc ++ x ∷ []) (hex_bytes (drop (2 * (k + 1)) w))
-put_more w acc k x h e =
-    ap (λ l. prefixed acc (hex_bytes l)) (two w k h)
-    ∙ ap (λ o. prefixed acc (on_digit o (λ y. behind y (hex_bytes (drop (2 * (k + 1)) w))))) (sym e)
-    ∙ moved acc x (hex_bytes (drop (2 * (k + 1)) w))
-
-put_none : (w acc : List ℕ) (k : ℕ) → 2 * k + 1 < length w → None ≡ hex_byte (get_or w (2 * k) 0) (get_or w (2 * k + 1) 0)
-    → prefixed acc (hex_bytes (drop (2 * k) w)) ≡ None
-put_none w acc k h e =
-    ap (λ l. prefixed acc (hex_bytes l)) (two w k h)
-    ∙ ap (λ o. prefixed acc (on_digit o (λ y. behind y (hex_bytes (drop (2 * (k + 1)) w))))) (sym e)
-
-put_all : (w acc : List ℕ) (k : ℕ) → length w ≤ 2 * k → prefixed acc (hex_bytes (drop (2 * k) w)) ≡ Some acc
-put_all w acc k h = ap (λ l. prefixed acc (hex_bytes l)) (drop_all (2 * k) w h) ∙ ap Some (append-nil acc)
+paired : (k : ℕ) (w : List ℕ) → length w ≡ 2 * k → hex_bytes w ≡ of_pairs (first_chunks 2 k w)
+paired zero [] e = refl
+paired zero (a ∷ w) e = absurd (omega (arith, e))
+paired (suc k) [] e = absurd (omega (arith, e))
+paired (suc k) (a ∷ []) e = absurd (omega (arith, e))
+paired (suc k) (a ∷ b ∷ w) e = ap (λ o. on_digit (hex_byte a b) (λ x. behind x o)) (paired k w (omega (arith, e)))
 
 over : (o : Option ℕ) (p : Option (List ℕ)) → p ≡ None → on_digit o (λ x. behind x p) ≡ None
 over None p e = refl
 over (Some x) p e = ap (behind x) e
 
--- a digit is over
-pub odd : (w : List ℕ) → (length w % 2 ≡ 0 → ⊥) → hex_bytes w ≡ None
-odd [] h = absurd (h refl)
-odd (a ∷ []) h = refl
-odd (a ∷ b ∷ rest) h = over (hex_byte a b) (hex_bytes rest) (odd rest (λ e. h (omega (arith, e))))
+alone : (w : List ℕ) → (length w % 2 ≡ 0 → ⊥) → hex_bytes w ≡ None
+alone [] h = absurd (h refl)
+alone (a ∷ []) h = refl
+alone (a ∷ b ∷ rest) h = over (hex_byte a b) (hex_bytes rest) (alone rest (λ e. h (omega (arith, e))))
 
--- bytes from the digits gone through, and what is left of them
-pub byte_more : (w acc new : List ℕ) (k x : ℕ) → k < length w / 2 → Some x ≡ hex_byte (get_or w (2 * k) 0) (get_or w (2 * k + 1) 0) → new ≡ acc ++ x ∷ []
-    → prefixed acc (hex_bytes (drop (2 * k) w)) ≡ hex_bytes w → prefixed new (hex_bytes (drop (2 * (k + 1)) w)) ≡ hex_bytes w
-byte_more w acc new k x h e p inv =
-    ap (λ l. prefixed l (hex_bytes (drop (2 * (k + 1)) w))) p ∙ sym (put_more w acc k x (omega arith) e) ∙ inv
+-- where the grammar is not met
+pub refused : {X : Type 0} (r : Result X Fault) (P : X → Type 0) (Q : Type 0) → is_err r ≡ true → Q → Read r P Q
+refused (Ok x) P Q e q = absurd (true≢false (sym e))
+refused (Err Bad) P Q e q = q
+refused (Err (Memory error)) P Q e q = tt
 
-pub byte_none : (w acc : List ℕ) (k : ℕ) → k < length w / 2 → None ≡ hex_byte (get_or w (2 * k) 0) (get_or w (2 * k + 1) 0)
-    → prefixed acc (hex_bytes (drop (2 * k) w)) ≡ hex_bytes w → hex_bytes w ≡ None
-byte_none w acc k h e inv = sym inv ∙ put_none w acc k (omega arith) e
+-- a digit is over, or none is
+pub odd : (w : List ℕ) (n : ℕ) → n ≡ length w % 2 → false ≡ eqb n 0 → hex_bytes w ≡ None
+odd w n e h = alone w (λ z. grind (arith, nat_tests, e, h, z))
 
-pub bytes_all : (w acc : List ℕ) (k : ℕ) → length w / 2 ≤ k → length w % 2 ≡ 0
-    → prefixed acc (hex_bytes (drop (2 * k) w)) ≡ hex_bytes w → hex_bytes w ≡ Some acc
-bytes_all w acc k h even inv = sym inv ∙ put_all w acc k (omega arith)
+even : (w : List ℕ) (ps : List (List ℕ)) (n : ℕ) → ps ≡ first_chunks 2 (length w / 2) w → n ≡ length w % 2 → true ≡ eqb n 0 → of_pairs ps ≡ hex_bytes w
+even w ps n f e h = let z : n ≡ 0 = grind (arith, nat_tests, h) in ap of_pairs f ∙ sym (paired (length w / 2) w (omega (arith, e, z)))
 
--- a word of more than one byte
-pub other : (w : List ℕ) → false ≡ eqb (length w) 0 → (length w ≡ 1 → ⊥) → hex_of w ≡ hex_bytes w
-other [] h n = absurd (true≢false (sym h))
-other (a ∷ []) h n = absurd (n refl)
-other (a ∷ b ∷ rest) h n = refl
+-- bytes from the pairs gone through, and what is left of them
+next_pair : (ps : List (List ℕ)) (i : ℕ) (p : List ℕ) (o : Option ℕ) → i < length ps → p ≡ get_or ps i p → o ≡ hex_byte (get_or p 0 0) (get_or p 1 0)
+    → of_pairs (drop i ps) ≡ on_digit o (λ x. behind x (of_pairs (drop (i + 1) ps)))
+next_pair ps i p o l is e =
+    at_drop_more of_pairs ps i p l
+    ∙ ap (λ q. on_digit (hex_byte (get_or q 0 0) (get_or q 1 0)) (λ x. behind x (of_pairs (drop (i + 1) ps)))) (sym is)
+    ∙ ap (λ q. on_digit q (λ x. behind x (of_pairs (drop (i + 1) ps)))) (sym e)
+
+pub pair_more : (ps : List (List ℕ)) (acc new : List ℕ) (i x : ℕ) (p : List ℕ) → i < length ps → p ≡ get_or ps i p → Some x ≡ hex_byte (get_or p 0 0) (get_or p 1 0) → new ≡ acc ++ x ∷ []
+    → prefixed acc (of_pairs (drop i ps)) ≡ of_pairs ps → prefixed new (of_pairs (drop (i + 1) ps)) ≡ of_pairs ps
+pair_more ps acc new i x p l is e f inv =
+    ap (λ l. prefixed l (of_pairs (drop (i + 1) ps))) f
+    ∙ sym (moved acc x (of_pairs (drop (i + 1) ps)))
+    ∙ sym (ap (prefixed acc) (next_pair ps i p (Some x) l is e))
+    ∙ inv
+
+pub pair_none : (w : List ℕ) (ps : List (List ℕ)) (acc : List ℕ) (n i : ℕ) (p : List ℕ) → ps ≡ first_chunks 2 (length w / 2) w → n ≡ length w % 2 → true ≡ eqb n 0
+    → i < length ps → p ≡ get_or ps i p → None ≡ hex_byte (get_or p 0 0) (get_or p 1 0)
+    → prefixed acc (of_pairs (drop i ps)) ≡ of_pairs ps → hex_bytes w ≡ None
+pair_none w ps acc n i p f m h l is e inv = sym (even w ps n f m h) ∙ sym inv ∙ ap (prefixed acc) (next_pair ps i p None l is e)
+
+pub pairs_all : (w : List ℕ) (ps : List (List ℕ)) (acc : List ℕ) (n i : ℕ) → ps ≡ first_chunks 2 (length w / 2) w → n ≡ length w % 2 → true ≡ eqb n 0
+    → length ps ≤ i → prefixed acc (of_pairs (drop i ps)) ≡ of_pairs ps → hex_bytes w ≡ Some acc
+pairs_all w ps acc n i f m h l inv = sym (even w ps n f m h) ∙ sym inv ∙ ap (λ q. prefixed acc (of_pairs q)) (drop_all i ps l) ∙ ap Some (append-nil acc)

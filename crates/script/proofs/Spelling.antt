@@ -1,8 +1,9 @@
 -- Numbers, digit by digit.
 use Rattle.std.proofs.Common.{◌≡◌, ℕ, ◌+◌, ◌*◌, ◌^◌, ◌<◌, ◌≤◌, false, eqb, List, [], ◌∷◌, length, get_or, drop, Some, None, Option, sym, refl, ap, ◌∙◌, true≢false, arith}
+use Rattle.std.proofs.Math.Nat.{le-mul_of_pos_right}
 use Rattle.std.proofs.lemmas.Bool.Decides.{nat_tests}
 use Rattle.std.proofs.lemmas.List.{at_drop_more, at_drop_all}
-use Rattle.script.specs.Digits.{decimal_digit, hex_digit}
+use Rattle.script.specs.Digits.{decimal_digit, hex_digit, digit_in}
 use Rattle.script.specs.Spelled.{on_digit, below, more, spelled, number_of, pattern_of}
 
 -- a number that is too great stays so
@@ -15,6 +16,9 @@ under limit n h = grind (arith, nat_tests)
 -- with each digit the number grows
 abbrev pub Grows : ℕ → Type 0
 Grows base = (n d : ℕ) → n ≤ n * base + d
+
+grows : (base : ℕ) → 2 ≤ base → Grows base
+grows base two n d = omega (arith, le-mul_of_pos_right {m = base} n (omega arith))
 
 too_great : (digit : ℕ → Option ℕ) (base limit n : ℕ) (bs : List ℕ) → Grows base → limit ≤ n → below limit (spelled digit base n bs) ≡ None
 too_great digit base limit n [] up h = over limit n h
@@ -53,40 +57,50 @@ pub digits_all : (digit : ℕ → Option ℕ) (base limit n : ℕ) (bs : List �
     → below limit (spelled digit base n (drop i bs)) ≡ Some n
 digits_all digit base limit n bs i h f = at_drop_all (λ l. below limit (spelled digit base n l)) bs i h ∙ under limit n f
 
-number_some : (bs : List ℕ) → false ≡ eqb (length bs) 0 → number_of bs ≡ below (2 ^ 32) (spelled decimal_digit 10 0 bs)
-number_some [] e = absurd (true≢false (sym e))
-number_some (b ∷ bs) e = refl
+-- one number from digit to digit
+pub number_more : (base : ℕ) (bs : List ℕ) (i n m : ℕ) → i < length bs → Some m ≡ more base (2 ^ 64) n (digit_in base (get_or bs i 0))
+    → below (2 ^ 64) (spelled (digit_in base) base n (drop i bs)) ≡ below (2 ^ 64) (spelled (digit_in base) base 0 bs)
+    → (below (2 ^ 64) (spelled (digit_in base) base m (drop (i + 1) bs)) ≡ below (2 ^ 64) (spelled (digit_in base) base 0 bs)) × (m < 2 ^ 64)
+number_more base bs i n m h e inv =
+    (sym (digit_more (digit_in base) base (2 ^ 64) n m bs i h e) ∙ inv, more_under base (2 ^ 64) n m (digit_in base (get_or bs i 0)) e)
 
-pattern_some : (bs : List ℕ) → false ≡ eqb (length bs) 0 → length bs ≤ 16 → pattern_of bs ≡ below (2 ^ 64) (spelled hex_digit 16 0 bs)
-pattern_some [] e h = absurd (true≢false (sym e))
-pattern_some (b ∷ bs) e h = grind (arith, nat_tests, h)
+pub number_none : (base : ℕ) (bs : List ℕ) (i n : ℕ) → 2 ≤ base → i < length bs → None ≡ more base (2 ^ 64) n (digit_in base (get_or bs i 0))
+    → below (2 ^ 64) (spelled (digit_in base) base n (drop i bs)) ≡ below (2 ^ 64) (spelled (digit_in base) base 0 bs)
+    → None ≡ below (2 ^ 64) (spelled (digit_in base) base 0 bs)
+number_none base bs i n two h e inv = sym (digit_none (digit_in base) base (2 ^ 64) n bs i (grows base two) h e) ∙ inv
 
--- the digits of a decimal number, from digit to digit
-pub number_more : (bs : List ℕ) (i n m : ℕ) → i < length bs → Some m ≡ more 10 (2 ^ 32) n (decimal_digit (get_or bs i 0))
-    → below (2 ^ 32) (spelled decimal_digit 10 n (drop i bs)) ≡ below (2 ^ 32) (spelled decimal_digit 10 0 bs)
-    → (below (2 ^ 32) (spelled decimal_digit 10 m (drop (i + 1) bs)) ≡ below (2 ^ 32) (spelled decimal_digit 10 0 bs)) × (m < 2 ^ 32)
-number_more bs i n m h e inv = (sym (digit_more decimal_digit 10 (2 ^ 32) n m bs i h e) ∙ inv, more_under 10 (2 ^ 32) n m (decimal_digit (get_or bs i 0)) e)
+pub number_all : (base : ℕ) (bs : List ℕ) (i n : ℕ) → length bs ≤ i → n < 2 ^ 64
+    → below (2 ^ 64) (spelled (digit_in base) base n (drop i bs)) ≡ below (2 ^ 64) (spelled (digit_in base) base 0 bs)
+    → Some n ≡ below (2 ^ 64) (spelled (digit_in base) base 0 bs)
+number_all base bs i n h f inv = sym (digits_all (digit_in base) base (2 ^ 64) n bs i h f) ∙ inv
 
-pub number_none : (bs : List ℕ) (i n : ℕ) → false ≡ eqb (length bs) 0 → i < length bs → None ≡ more 10 (2 ^ 32) n (decimal_digit (get_or bs i 0))
-    → below (2 ^ 32) (spelled decimal_digit 10 n (drop i bs)) ≡ below (2 ^ 32) (spelled decimal_digit 10 0 bs) → None ≡ number_of bs
-number_none bs i n some h e inv =
-    sym (digit_none decimal_digit 10 (2 ^ 32) n bs i (λ k d. omega arith) h e) ∙ inv ∙ sym (number_some bs some)
+-- the digits of base 10 and of base 16
+decimal_same : (b : ℕ) → decimal_digit b ≡ digit_in 10 b
+decimal_same b = grind (arith, nat_tests)
 
-pub number_all : (bs : List ℕ) (i n : ℕ) → false ≡ eqb (length bs) 0 → length bs ≤ i → n < 2 ^ 32
-    → below (2 ^ 32) (spelled decimal_digit 10 n (drop i bs)) ≡ below (2 ^ 32) (spelled decimal_digit 10 0 bs) → Some n ≡ number_of bs
-number_all bs i n some h f inv = sym (digits_all decimal_digit 10 (2 ^ 32) n bs i h f) ∙ inv ∙ sym (number_some bs some)
+hex_same : (b : ℕ) → hex_digit b ≡ digit_in 16 b
+hex_same b = grind (arith, nat_tests)
 
--- those of a pattern
-pub pattern_more : (bs : List ℕ) (i n m : ℕ) → i < length bs → Some m ≡ more 16 (2 ^ 64) n (hex_digit (get_or bs i 0))
-    → below (2 ^ 64) (spelled hex_digit 16 n (drop i bs)) ≡ below (2 ^ 64) (spelled hex_digit 16 0 bs)
-    → (below (2 ^ 64) (spelled hex_digit 16 m (drop (i + 1) bs)) ≡ below (2 ^ 64) (spelled hex_digit 16 0 bs)) × (m < 2 ^ 64)
-pattern_more bs i n m h e inv = (sym (digit_more hex_digit 16 (2 ^ 64) n m bs i h e) ∙ inv, more_under 16 (2 ^ 64) n m (hex_digit (get_or bs i 0)) e)
+narrow_none : (o : Option ℕ) → None ≡ below (2 ^ 64) o → None ≡ below (2 ^ 32) o
+narrow_none None e = refl
+narrow_none (Some n) e = grind (arith, nat_tests, e)
 
-pub pattern_none : (bs : List ℕ) (i n : ℕ) → false ≡ eqb (length bs) 0 → length bs ≤ 16 → i < length bs → None ≡ more 16 (2 ^ 64) n (hex_digit (get_or bs i 0))
-    → below (2 ^ 64) (spelled hex_digit 16 n (drop i bs)) ≡ below (2 ^ 64) (spelled hex_digit 16 0 bs) → None ≡ pattern_of bs
-pattern_none bs i n some few h e inv =
-    sym (digit_none hex_digit 16 (2 ^ 64) n bs i (λ k d. omega arith) h e) ∙ inv ∙ sym (pattern_some bs some few)
+narrow_some : (o : Option ℕ) (n : ℕ) → Some n ≡ below (2 ^ 64) o → below (2 ^ 32) o ≡ below (2 ^ 32) (Some n)
+narrow_some None n e = absurd (cc)
+narrow_some (Some m) n e = let same : n ≡ m = grind (arith, nat_tests, e) in ap (λ k. below (2 ^ 32) (Some k)) (sym same)
 
-pub pattern_all : (bs : List ℕ) (i n : ℕ) → false ≡ eqb (length bs) 0 → length bs ≤ 16 → length bs ≤ i → n < 2 ^ 64
-    → below (2 ^ 64) (spelled hex_digit 16 n (drop i bs)) ≡ below (2 ^ 64) (spelled hex_digit 16 0 bs) → Some n ≡ pattern_of bs
-pattern_all bs i n some few h f inv = sym (digits_all hex_digit 16 (2 ^ 64) n bs i h f) ∙ inv ∙ sym (pattern_some bs some few)
+decimal : (bs : List ℕ) → false ≡ eqb (length bs) 0 → number_of bs ≡ below (2 ^ 32) (spelled (digit_in 10) 10 0 bs)
+decimal [] e = absurd (true≢false (sym e))
+decimal (b ∷ bs) e = λ j. below (2 ^ 32) (spelled (λ d. decimal_same d j) 10 0 (b ∷ bs))
+
+pub decimal_none : (bs : List ℕ) → false ≡ eqb (length bs) 0 → None ≡ below (2 ^ 64) (spelled (digit_in 10) 10 0 bs) → None ≡ number_of bs
+decimal_none bs some e = narrow_none (spelled (digit_in 10) 10 0 bs) e ∙ sym (decimal bs some)
+
+pub decimal_some : (bs : List ℕ) (n : ℕ) → false ≡ eqb (length bs) 0 → Some n ≡ below (2 ^ 64) (spelled (digit_in 10) 10 0 bs) → number_of bs ≡ below (2 ^ 32) (Some n)
+decimal_some bs n some e = decimal bs some ∙ narrow_some (spelled (digit_in 10) 10 0 bs) n e
+
+pub hexadecimal : (bs : List ℕ) → false ≡ eqb (length bs) 0 → length bs ≤ 16 → below (2 ^ 64) (spelled (digit_in 16) 16 0 bs) ≡ pattern_of bs
+hexadecimal [] e h = absurd (true≢false (sym e))
+hexadecimal (b ∷ bs) e h =
+    let same : below (2 ^ 64) (spelled (digit_in 16) 16 0 (b ∷ bs)) ≡ below (2 ^ 64) (spelled hex_digit 16 0 (b ∷ bs)) = λ j. below (2 ^ 64) (spelled (λ d. sym (hex_same d) j) 16 0 (b ∷ bs)) in
+    same ∙ grind (arith, nat_tests, h)

@@ -7,4 +7,4 @@ use Rattle.script.specs.declared.fault.Fault.TheVariants.{Bad, Memory}
 abbrev pub Read : {X : Type 0} → Result X Fault → (X → Type 0) → Type 0 → Type 0
 Read (Ok x) P Q = P x
 Read (Err Bad) P Q = Q
-Read (Err Memory) P Q = Unit {0}
+Read (Err (Memory error)) P Q = Unit {0}

@@ -1,5 +1,5 @@
 -- A text in two at a byte's first place.
-use Rattle.std.specs.Prelude.{ℕ, ◌+◌, cond, List, [], ◌∷◌, length, Some, None, Option, ◌==◌}
+use Rattle.std.specs.Prelude.{ℕ, ◌+◌, cond, List, [], ◌∷◌, length, Some, None, Option, ◌==◌, Bool, ◌||◌, bytes_eq, codes}
 use Rattle.script.specs.Spelled.{number_of}
 
 -- the bytes before the first `mark`, or all
@@ -34,3 +34,7 @@ after_line left = or_nothing (after 10 left)
 abbrev pub word_number : Option (List ℕ) → Option ℕ
 word_number None = None
 word_number (Some left) = number_of (up_to 32 left)
+
+-- whether the first word of a line is `use` or `again`
+abbrev pub begins_use : List ℕ → Bool
+begins_use line = bytes_eq (up_to 32 line) (codes "use") || bytes_eq (up_to 32 line) (codes "again")

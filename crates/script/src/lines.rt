@@ -1,6 +1,7 @@
 // A script's lines.
-ghost use Rattle.std.specs.Prelude.{IfOk};
+ghost use Rattle.std.specs.Prelude.{◌≡◌, IfOk, IfSome};
 ghost use Rattle.script.specs.Kept.{Keeps};
+ghost use Rattle.script.specs.Parting.{begins_use};
 
 use super::calls::step;
 use super::fault::Fault;
@@ -13,8 +14,6 @@ use std::alloc::Global;
 // What a line says.
 #[derive(Drop)]
 pub enum Line {
-    // a blank line, or a remark
-    Nothing,
     Begin { again: bool, named: Named },
     Step { step: Step },
     Poke { poke: Poke },
@@ -35,21 +34,16 @@ fn next_poke(words: &mut Words, heap: Global) -> Result<Poke, Fault> {
 }
 
 // Whether a line has the name of one that begins a use, good or bad.
-pub fn begins_use(line: &[u8]) -> bool {
-    match Words::new(line).next() {
-        Some(b"use") => true,
-        Some(b"again") => true,
-        _ => false,
-    }
+pub fn begins_use(line: &[u8]) -> bool
+    ensures { result ≡ begins_use line.now }
+{
+    matches!(Words::new(line).next(), Some(b"use" | b"again"))
 }
 
-// A line, read.
-pub fn read_line(line: &[u8], heap: Global) -> Result<Line, Fault>
+// A line that says something, read.
+fn read_words(line: &[u8], heap: Global) -> Result<Line, Fault>
     ensures { IfOk result Keeps }
 {
-    if line.is_empty() || line[0] == b'#' {
-        return Ok(Line::Nothing);
-    }
     let mut words = Words::new(line);
     match next_word(&mut words)? {
         b"use" => Ok(Line::Begin {
@@ -66,5 +60,15 @@ pub fn read_line(line: &[u8], heap: Global) -> Result<Line, Fault>
         name => Ok(Line::Step {
             step: step(name, &mut words, heap)?,
         }),
+    }
+}
+
+// A line, read; none where it is blank, or a remark.
+pub fn read_line(line: &[u8], heap: Global) -> Result<Option<Line>, Fault>
+    ensures { IfOk result (λ said. IfSome said Keeps) }
+{
+    match line {
+        [] | [b'#', ..] => Ok(None),
+        _ => Ok(Some(read_words(line, heap)?)),
     }
 }

@@ -1,47 +1,40 @@
 // Numbers and bytes as a script spells them.
-ghost use Rattle.std.specs.Prelude.{◌≡◌, ◌^◌, Some, None};
-ghost use Rattle.script.specs.Digits.{decimal_digit, hex_digit};
+ghost use Rattle.std.specs.Prelude.{◌≡◌, ◌+◌, ◌^◌, ◌<◌, ◌≤◌, IfSome, Some, None};
+ghost use Rattle.script.specs.Digits.{digit_in};
 ghost use Rattle.script.specs.Faults.{Read};
-ghost use Rattle.script.specs.Spelled.{more, number_of, pattern_of, hex_byte, hex_bytes, hex_of};
+ghost use Rattle.script.specs.Spelled.{below, more, spelled, number_of, pattern_of, hex_byte, hex_bytes, hex_of};
 
 use super::fault::Fault;
 use std::alloc::Global;
 
-// The value of a decimal digit.
-fn decimal_digit(b: u8) -> Option<u8>
-    ensures { result ≡ decimal_digit b }
+// The value of a digit of a base, a letter in either case.
+fn digit(b: u8, base: u32) -> Option<u32>
+    requires { (2 ≤ base) × (base ≤ 36) }
+    ensures value { result ≡ digit_in base b }
+    ensures bound { IfSome result (λ d. d < base) }
 {
-    match b {
-        b'0'..=b'9' => Some(b - b'0'),
-        _ => None,
-    }
+    char::from(b).to_digit(base)
 }
 
-// The value of a hexadecimal digit of either case.
-fn hex_digit(b: u8) -> Option<u8>
-    ensures { result ≡ hex_digit b }
+// A number with one more digit, where that is one and the number fits 64 bits.
+fn add_digit(n: u64, b: u8, base: u32) -> Option<u64>
+    requires { (2 ≤ base) × (base ≤ 36) }
+    ensures { result ≡ more base (2 ^ 64) n (digit_in base b) }
 {
-    match b {
-        b'0'..=b'9' => Some(b - b'0'),
-        b'a'..=b'f' => Some(b - b'a' + 10),
-        b'A'..=b'F' => Some(b - b'A' + 10),
-        _ => None,
-    }
+    let digit = digit(b, base)?;
+    n.checked_mul(base as u64)?.checked_add(digit as u64)
 }
 
-// A number with one more decimal digit, where that is one and the number fits 32 bits.
-fn add_decimal(n: u32, b: u8) -> Option<u32>
-    ensures { result ≡ more 10 (2 ^ 32) n (decimal_digit b) }
+// The number that a word's digits spell, where all are digits and it fits 64 bits.
+fn spelled(word: &[u8], base: u32) -> Option<u64>
+    requires { (2 ≤ base) × (base ≤ 36) }
+    ensures { result ≡ below (2 ^ 64) (spelled (digit_in base) base 0 word.now) }
 {
-    let Some(digit) = decimal_digit(b) else {
-        return None;
-    };
-    let sum = n as u64 * 10 + digit as u64;
-    if sum > u32::MAX as u64 {
-        None
-    } else {
-        Some(sum as u32)
+    let mut n = 0;
+    for b in word {
+        n = add_digit(n, *b, base)?;
     }
+    Some(n)
 }
 
 // A decimal number of 32 bits.
@@ -51,76 +44,40 @@ pub fn number(word: &[u8]) -> Option<u32>
     if word.is_empty() {
         return None;
     }
-    let mut n = 0;
-    for b in word {
-        let Some(sum) = add_decimal(n, *b) else {
-            return None;
-        };
-        n = sum;
-    }
-    Some(n)
-}
-
-// A number with one more hexadecimal digit, where that is one and the number fits 64 bits.
-fn add_hex(n: u64, b: u8) -> Option<u64>
-    ensures { result ≡ more 16 (2 ^ 64) n (hex_digit b) }
-{
-    let Some(digit) = hex_digit(b) else {
-        return None;
-    };
-    let sum = n as u128 * 16 + digit as u128;
-    if sum > u64::MAX as u128 {
-        None
-    } else {
-        Some(sum as u64)
-    }
+    let n = spelled(word, 10)?;
+    u32::try_from(n).ok()
 }
 
 // A pattern: 1 to 16 hexadecimal digits.
 pub fn pattern(word: &[u8]) -> Option<u64>
     ensures { result ≡ pattern_of word.now }
 {
-    if word.is_empty() {
+    if word.is_empty() || word.len() > 16 {
         return None;
     }
-    if word.len() > 16 {
-        return None;
-    }
-    let mut n = 0;
-    for b in word {
-        let Some(sum) = add_hex(n, *b) else {
-            return None;
-        };
-        n = sum;
-    }
-    Some(n)
+    spelled(word, 16)
 }
 
 // The byte of two hexadecimal digits.
 fn hex_byte(high: u8, low: u8) -> Option<u8>
     ensures { result ≡ hex_byte high low }
 {
-    let Some(h) = hex_digit(high) else {
-        return None;
-    };
-    let Some(l) = hex_digit(low) else {
-        return None;
-    };
-    Some(h * 16 + l)
+    let high = digit(high, 16)? as u8;
+    let low = digit(low, 16)? as u8;
+    Some(high * 16 + low)
 }
 
 // Bytes, of two hexadecimal digits each.
 fn hex_bytes(word: &[u8], heap: Global) -> Result<Vec<u8>, Fault>
     ensures { Read result (λ v. hex_bytes word.now ≡ Some v.items) (hex_bytes word.now ≡ None) }
 {
-    if word.len() % 2 != 0 {
+    let (pairs, rest) = word.as_chunks::<2>();
+    if !rest.is_empty() {
         return Err(Fault::Bad);
     }
     let mut bytes = Vec::new(heap);
-    for k in 0..word.len() / 2 {
-        let Some(b) = hex_byte(word[2 * k], word[2 * k + 1]) else {
-            return Err(Fault::Bad);
-        };
+    for [high, low] in pairs {
+        let b = hex_byte(*high, *low).ok_or(Fault::Bad)?;
         bytes.push(b)?;
     }
     Ok(bytes)
@@ -130,15 +87,9 @@ fn hex_bytes(word: &[u8], heap: Global) -> Result<Vec<u8>, Fault>
 pub fn hex(word: &[u8], heap: Global) -> Result<Vec<u8>, Fault>
     ensures { Read result (λ v. hex_of word.now ≡ Some v.items) (hex_of word.now ≡ None) }
 {
-    if word.is_empty() {
-        return Err(Fault::Bad);
+    match word {
+        b"" => Err(Fault::Bad),
+        b"-" => Ok(Vec::new(heap)),
+        _ => hex_bytes(word, heap),
     }
-    if word.len() == 1 {
-        return if word[0] == b'-' {
-            Ok(Vec::new(heap))
-        } else {
-            Err(Fault::Bad)
-        };
-    }
-    hex_bytes(word, heap)
 }

@@ -25,9 +25,7 @@ fn begin_use(uses: &mut Vec<Use>, again: bool, named: Named, heap: Global) -> Re
 fn add_step(uses: &mut Vec<Use>, step: Step) -> Result<(), Fault>
     ensures { vec_len uses.new ≡ vec_len uses.old }
 {
-    let Some(last) = uses.last_mut() else {
-        return Err(Fault::Bad);
-    };
+    let last = uses.last_mut().ok_or(Fault::Bad)?;
     if !last.pokes.is_empty() {
         return Err(Fault::Bad);
     }
@@ -39,9 +37,7 @@ fn add_step(uses: &mut Vec<Use>, step: Step) -> Result<(), Fault>
 fn add_poke(uses: &mut Vec<Use>, poke: Poke) -> Result<(), Fault>
     ensures { vec_len uses.new ≡ vec_len uses.old }
 {
-    let Some(last) = uses.last_mut() else {
-        return Err(Fault::Bad);
-    };
+    let last = uses.last_mut().ok_or(Fault::Bad)?;
     last.pokes.push(poke)?;
     Ok(())
 }
@@ -51,10 +47,10 @@ fn add_line(uses: &mut Vec<Use>, line: &[u8], heap: Global) -> Result<(), Fault>
     ensures { OnOk result (vec_len uses.old ≤ vec_len uses.new) }
 {
     match read_line(line, heap)? {
-        Line::Nothing => Ok(()),
-        Line::Begin { again, named } => begin_use(uses, again, named, heap),
-        Line::Step { step } => add_step(uses, step),
-        Line::Poke { poke } => add_poke(uses, poke),
+        None => Ok(()),
+        Some(Line::Begin { again, named }) => begin_use(uses, again, named, heap),
+        Some(Line::Step { step }) => add_step(uses, step),
+        Some(Line::Poke { poke }) => add_poke(uses, poke),
     }
 }
 
@@ -63,14 +59,10 @@ pub fn parse(text: &[u8], heap: Global) -> Result<Script, AllocError>
     ensures { IfOk result (λ s. IfSome s.bad (λ n. (1 ≤ n) × (n ≤ length text.now))) }
 {
     let mut uses = Vec::new(heap);
-    let mut lines = Lines::new(text);
-    for k in 0..text.len() {
-        let Some(line) = lines.next() else {
-            break;
-        };
+    for (k, line) in Lines::new(text).enumerate() {
         match add_line(&mut uses, line, heap) {
             Ok(()) => {}
-            Err(Fault::Memory) => return Err(AllocError),
+            Err(Fault::Memory(error)) => return Err(error),
             Err(Fault::Bad) => {
                 if !begins_use(line) {
                     let _ = uses.pop();

@@ -1,12 +1,8 @@
-use Rattle.std.proofs.Common.{rules}
-use Rattle.script.proofs.Spelling.{number_more, number_none, number_all}
+use Rattle.std.proofs.Common.{arith, rules}
+use Rattle.std.proofs.lemmas.Bool.Decides.{nat_tests}
+use Rattle.script.proofs.Spelling.{decimal_some}
 use Rattle.script.proofs.numbers.number.Goals as goal
 
-pub returns-in_default : goal.returns-in_default
-returns-in_default c = search (rules, number_none)
-
-pub loop-b-preserved : goal.loop-b-preserved
-loop-b-preserved c = search (rules, number_more)
-
 pub returns : goal.returns
-returns c = search (rules, number_all)
+returns c =
+    rw (decimal_some c.args.word.now c.in_ok-n.n (search rules) (search rules)) (grind (arith, nat_tests))
