@@ -6,7 +6,7 @@ use Rattle.std.specs.Simd.{first_chunks}
 use Rattle.script.specs.declared.fault.Fault.{Fault}
 use Rattle.script.specs.declared.fault.Fault.TheVariants.{Bad, Memory}
 use Rattle.script.specs.Faults.{Read}
-use Rattle.script.specs.Spelled.{on_digit, hex_byte, behind, hex_bytes, hex_of}
+use Rattle.script.specs.Spelled.{on_digit, hex_byte, behind, hex_bytes}
 
 -- bytes before others, where those are any
 abbrev pub prefixed : List ℕ → Option (List ℕ) → Option (List ℕ)

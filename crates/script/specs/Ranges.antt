@@ -1,18 +1,14 @@
 -- What lines ask for.
 use Rattle.std.specs.Prelude.{ℕ}
 use Rattle.script.specs.declared.script.Named.{Named}
-use Rattle.script.specs.declared.script.Named.TheVariants.{Memory, Trial, Window, Hold, WindowHold, HoldWindow}
+use Rattle.script.specs.declared.script.Named.TheVariants.{Memory, Trial}
 use Rattle.script.specs.declared.script.Step.{Step}
 use Rattle.script.specs.declared.script.Step.TheVariants.{Work, Lay, Call, BadField, Ask, DumpWork, DumpPage}
 
 -- the pages that a medium asks for
 abbrev pub pages_of : Named → ℕ
 pages_of (Memory pages) = pages
-pages_of (Trial card) = card.pages
-pages_of (Window span card) = card.pages
-pages_of (Hold card) = card.pages
-pages_of (WindowHold span card) = card.pages
-pages_of (HoldWindow span card) = card.pages
+pages_of (Trial card under) = card.pages
 
 -- the bytes of a work page, where a line asks for one
 abbrev pub work_of : Step → ℕ

@@ -7,7 +7,7 @@ use super::numbers::{hex, number};
 use super::script::Step;
 use super::words::{Words, check_end, next_number, next_word};
 use book::Call;
-use form::{Cue, Item, Still};
+use form::{BadField, Cue, Item, Still};
 use std::alloc::Global;
 
 // The most bytes that a work page has.
@@ -18,12 +18,11 @@ const CUE: u8 = 0;
 
 const STILL: u8 = 1;
 
-// A record's value as a line gives it: bytes, or a form's fields.
+// A record's value as a line gives it: bytes, or a form's value.
 #[derive(Drop)]
 enum Said {
     Bytes { bytes: Vec<u8> },
     Item { item: Item },
-    BadField { bit: usize },
 }
 
 // A field, where the next word is that field's.
@@ -39,95 +38,105 @@ fn field(words: &mut Words, name: &[u8]) -> Result<Option<u32>, Fault> {
     Ok(Some(n))
 }
 
-// A cue's fields in their order.
-fn cue(words: &mut Words) -> Result<Said, Fault> {
-    let start = field(words, b"start=")?;
-    let projector = field(words, b"projector=")?;
-    let level = field(words, b"level=")?;
-    let fade = field(words, b"fade=")?;
-    match Cue::new(start, projector, level, fade) {
-        Ok(cue) => Ok(Said::Item {
-            item: Item::Cue { cue },
-        }),
-        Err(bad) => Ok(Said::BadField { bit: bad.bit }),
-    }
+// A form's fields in their order, and what is made of them.
+fn fields<T, F: FnOnce(Option<u32>, Option<u32>, Option<u32>, Option<u32>) -> Result<T, BadField>>(
+    words: &mut Words,
+    names: [&[u8]; 4],
+    make: F,
+) -> Result<Result<T, BadField>, Fault>
+    requires { F.IsAlwaysCallable make }
+{
+    let [first, second, third, fourth] = names;
+    let first = field(words, first)?;
+    let second = field(words, second)?;
+    let third = field(words, third)?;
+    let fourth = field(words, fourth)?;
+    Ok(make(first, second, third, fourth))
 }
 
-// A still's fields in their order.
-fn still(words: &mut Words) -> Result<Said, Fault> {
-    let slide = field(words, b"slide=")?;
-    let projector = field(words, b"projector=")?;
-    let width = field(words, b"width=")?;
-    let hold = field(words, b"hold=")?;
-    match Still::new(slide, projector, width, hold) {
-        Ok(still) => Ok(Said::Item {
-            item: Item::Still { still },
-        }),
-        Err(bad) => Ok(Said::BadField { bit: bad.bit }),
-    }
+// A cue's fields.
+fn cue(words: &mut Words) -> Result<Result<Said, BadField>, Fault> {
+    let cue = fields(
+        words,
+        [b"start=", b"projector=", b"level=", b"fade="],
+        Cue::new,
+    )?;
+    Ok(cue.map(|cue| Said::Item {
+        item: Item::Cue { cue },
+    }))
 }
 
-// A value to the line's end.
-fn value(words: &mut Words, heap: Global) -> Result<Said, Fault> {
+// A still's fields.
+fn still(words: &mut Words) -> Result<Result<Said, BadField>, Fault> {
+    let still = fields(
+        words,
+        [b"slide=", b"projector=", b"width=", b"hold="],
+        Still::new,
+    )?;
+    Ok(still.map(|still| Said::Item {
+        item: Item::Still { still },
+    }))
+}
+
+// A value to the line's end, or a form's field outside its range.
+fn value(words: &mut Words, heap: Global) -> Result<Result<Said, BadField>, Fault> {
     let value = match next_word(words)? {
         b"cue" => cue(words)?,
         b"still" => still(words)?,
-        word => Said::Bytes {
+        word => Ok(Said::Bytes {
             bytes: hex(word, heap)?,
-        },
+        }),
     };
     check_end(words)?;
     Ok(value)
+}
+
+// A call that gives a key a value under a slip, made of bytes or of a form's value.
+fn giving<B: FnOnce(usize, u32, Vec<u8>) -> Call<Item>, I: FnOnce(usize, u32, Item) -> Call<Item>>(
+    words: &mut Words,
+    heap: Global,
+    of_bytes: B,
+    of_item: I,
+) -> Result<Step, Fault>
+    requires bytes { B.IsAlwaysCallable of_bytes }
+    requires item { I.IsAlwaysCallable of_item }
+    ensures { IfOk result (λ s. work_of s ≤ 4096) }
+{
+    let slip = next_number(words)? as usize;
+    let key = next_number(words)?;
+    match value(words, heap)? {
+        Ok(Said::Bytes { bytes }) => Ok(Step::Call {
+            call: of_bytes(slip, key, bytes),
+        }),
+        Ok(Said::Item { item }) => Ok(Step::Call {
+            call: of_item(slip, key, item),
+        }),
+        Err(bad) => Ok(Step::BadField { slip, bit: bad.bit }),
+    }
 }
 
 // A put.
 fn put(words: &mut Words, heap: Global) -> Result<Step, Fault>
     ensures { IfOk result (λ s. work_of s ≤ 4096) }
 {
-    let slip = next_number(words)? as usize;
-    let key = next_number(words)?;
-    match value(words, heap)? {
-        Said::Bytes { bytes } => Ok(Step::Call {
-            call: Call::Put {
-                slip,
-                key,
-                value: bytes,
-            },
-        }),
-        Said::Item { item } => Ok(Step::Call {
-            call: Call::PutForm {
-                slip,
-                key,
-                value: item,
-            },
-        }),
-        Said::BadField { bit } => Ok(Step::BadField { slip, bit }),
-    }
+    giving(
+        words,
+        heap,
+        |slip, key, value| Call::Put { slip, key, value },
+        |slip, key, value| Call::PutForm { slip, key, value },
+    )
 }
 
 // A change.
 fn change(words: &mut Words, heap: Global) -> Result<Step, Fault>
     ensures { IfOk result (λ s. work_of s ≤ 4096) }
 {
-    let slip = next_number(words)? as usize;
-    let key = next_number(words)?;
-    match value(words, heap)? {
-        Said::Bytes { bytes } => Ok(Step::Call {
-            call: Call::Change {
-                slip,
-                key,
-                value: bytes,
-            },
-        }),
-        Said::Item { item } => Ok(Step::Call {
-            call: Call::ChangeForm {
-                slip,
-                key,
-                value: item,
-            },
-        }),
-        Said::BadField { bit } => Ok(Step::BadField { slip, bit }),
-    }
+    giving(
+        words,
+        heap,
+        |slip, key, value| Call::Change { slip, key, value },
+        |slip, key, value| Call::ChangeForm { slip, key, value },
+    )
 }
 
 // A look, of bytes or under a form.

@@ -11,4 +11,4 @@ mod script;
 mod words;
 
 pub use reader::parse;
-pub use script::{Card, Named, Poke, Script, Span, Step, Use};
+pub use script::{Card, Layers, Named, Poke, Script, Span, Step, Use};

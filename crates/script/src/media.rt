@@ -1,12 +1,12 @@
 // A medium's words.
-ghost use Rattle.std.specs.Prelude.{◌≡◌, ◌≤◌, IfOk, Some};
+ghost use Rattle.std.specs.Prelude.{◌≡◌, ◌≤◌, codes, IfOk, OnOk, Some};
 ghost use Rattle.std.specs.Option.{option_map};
-ghost use Rattle.script.specs.Parting.{after_word, word_number};
+ghost use Rattle.script.specs.Parting.{after_word, up_to, word_number};
 ghost use Rattle.script.specs.Ranges.{pages_of};
 
 use super::fault::Fault;
 use super::numbers::pattern;
-use super::script::{Card, Named, Span};
+use super::script::{Card, Layers, Named, Span};
 use super::words::{Words, check_end, next_number, next_word};
 
 // The most pages that a medium has.
@@ -38,12 +38,13 @@ fn card(words: &mut Words) -> Result<Card, Fault>
     })
 }
 
-// A trial medium, where there must be one.
-fn trial(words: &mut Words) -> Result<Card, Fault>
-    ensures { IfOk result (λ c. c.pages ≤ 4096) }
+// That the next word names a trial medium.
+fn trial(words: &mut Words) -> Result<(), Fault>
+    ensures word { OnOk result (option_map (up_to 32) (option_map (λ x. x.now) words.old.rest) ≡ Some (codes "trial")) }
+    ensures left { option_map (λ x. x.now) words.new.rest ≡ after_word (option_map (λ x. x.now) words.old.rest) }
 {
     match next_word(words)? {
-        b"trial" => card(words),
+        b"trial" => Ok(()),
         _ => Err(Fault::Bad),
     }
 }
@@ -61,37 +62,30 @@ fn span(words: &mut Words) -> Result<Span, Fault>
     })
 }
 
-// What a window is over.
-fn window(words: &mut Words) -> Result<Named, Fault>
-    ensures { IfOk result (λ m. pages_of m ≤ 4096) }
-{
-    let span = span(words)?;
-    match next_word(words)? {
-        b"trial" => Ok(Named::Window {
-            span,
-            card: card(words)?,
-        }),
-        b"hold" => Ok(Named::WindowHold {
-            span,
-            card: trial(words)?,
-        }),
-        _ => Err(Fault::Bad),
-    }
-}
-
-// What a holding layer is over.
-fn hold(words: &mut Words) -> Result<Named, Fault>
-    ensures { IfOk result (λ m. pages_of m ≤ 4096) }
-{
-    match next_word(words)? {
-        b"trial" => Ok(Named::Hold { card: card(words)? }),
+// The layers over a trial medium, up to its name; the first word is `name`.
+fn layers(name: &[u8], words: &mut Words) -> Result<Layers, Fault> {
+    match name {
+        b"trial" => Ok(Layers::Bare),
         b"window" => {
             let span = span(words)?;
-            Ok(Named::HoldWindow {
-                span,
-                card: trial(words)?,
-            })
+            match next_word(words)? {
+                b"trial" => Ok(Layers::Window { span }),
+                b"hold" => {
+                    trial(words)?;
+                    Ok(Layers::WindowHold { span })
+                }
+                _ => Err(Fault::Bad),
+            }
         }
+        b"hold" => match next_word(words)? {
+            b"trial" => Ok(Layers::Hold),
+            b"window" => {
+                let span = span(words)?;
+                trial(words)?;
+                Ok(Layers::HoldWindow { span })
+            }
+            _ => Err(Fault::Bad),
+        },
         _ => Err(Fault::Bad),
     }
 }
@@ -104,10 +98,13 @@ fn named(words: &mut Words) -> Result<Named, Fault>
         b"memory" => Ok(Named::Memory {
             pages: pages(words)?,
         }),
-        b"trial" => Ok(Named::Trial { card: card(words)? }),
-        b"window" => window(words),
-        b"hold" => hold(words),
-        _ => Err(Fault::Bad),
+        name => {
+            let under = layers(name, words)?;
+            Ok(Named::Trial {
+                card: card(words)?,
+                under,
+            })
+        }
     }
 }
 

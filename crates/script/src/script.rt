@@ -1,9 +1,12 @@
 // What a script says.
+ghost use Rattle.std.specs.Prelude.{◌≡◌};
+ghost use Rattle.script.specs.Ranges.{pages_of};
+
 use book::Call;
 use form::Item;
 
 // A trial medium: its pages, the call in which it stops, 0 for never, and its pattern.
-#[derive(Clone, Copy)]
+#[derive(Clone, Copy, PartialEq, Eq, Debug)]
 pub struct Card {
     pub pages: usize,
     pub stop: u32,
@@ -11,21 +14,41 @@ pub struct Card {
 }
 
 // A window: its first page below and the number of pages that is asked for.
-#[derive(Clone, Copy)]
+#[derive(Clone, Copy, PartialEq, Eq, Debug)]
 pub struct Span {
     pub first: usize,
     pub count: usize,
 }
 
+// The layers over a trial medium.
+#[derive(Clone, Copy, PartialEq, Eq, Debug)]
+pub enum Layers {
+    Bare,
+    Window { span: Span },
+    Hold,
+    // a window onto a holding layer
+    WindowHold { span: Span },
+    // a holding layer over a window
+    HoldWindow { span: Span },
+}
+
 // The medium that a use names.
-#[derive(Clone, Copy)]
+#[derive(Clone, Copy, PartialEq, Eq, Debug)]
 pub enum Named {
     Memory { pages: usize },
-    Trial { card: Card },
-    Window { span: Span, card: Card },
-    Hold { card: Card },
-    WindowHold { span: Span, card: Card },
-    HoldWindow { span: Span, card: Card },
+    Trial { card: Card, under: Layers },
+}
+
+impl Named {
+    // The pages that it asks for.
+    pub fn pages(self) -> usize
+        ensures { result ≡ pages_of self }
+    {
+        match self {
+            Named::Memory { pages } => pages,
+            Named::Trial { card, .. } => card.pages,
+        }
+    }
 }
 
 // One line of a use.
@@ -43,7 +66,7 @@ pub enum Step {
 }
 
 // Bytes put into what a use left.
-#[derive(Drop)]
+#[derive(Drop, PartialEq, Eq, Debug)]
 pub struct Poke {
     pub page: usize,
     pub offset: usize,
