@@ -1,7 +1,7 @@
 // What scripts are read as.
 use book::Call;
 use form::Item;
-use script::{Named, Script, Step, Use, parse};
+use script::{Card, Layers, Named, Script, Span, Step, Use, parse};
 use std::process::Abort;
 use std::test::*;
 
@@ -10,22 +10,24 @@ fn read(rt: &(impl Abort + AllocGlobal), text: &[u8]) -> Result<Script, Fail> {
     Ok(parse(text, rt.alloc())?)
 }
 
-// How many uses are left of a script, and its bad line, 0 for none.
-fn says(rt: &(impl Abort + AllocGlobal), text: &[u8], uses: usize, bad: usize) -> Result<(), Fail> {
+// How many uses are left of a script, and its bad line, if it has one.
+fn says(
+    rt: &(impl Abort + AllocGlobal),
+    text: &[u8],
+    uses: usize,
+    bad: Option<usize>,
+) -> Result<(), Fail> {
     let script = read(rt, text)?;
     assert_eq!(rt; script.uses.len(), uses);
-    assert_eq!(rt; script.bad.unwrap_or(0), bad);
+    assert_eq!(rt; script.bad, bad);
     Ok(())
 }
 
 // The last use of a script that has no bad line.
 fn last_use(rt: &(impl Abort + AllocGlobal), text: &[u8]) -> Result<Use, Fail> {
     let mut script = read(rt, text)?;
-    assert_eq!(rt; script.bad.unwrap_or(0), 0);
-    let Some(last) = script.uses.pop() else {
-        return Err(Fail::new("no use"));
-    };
-    Ok(last)
+    assert_eq!(rt; script.bad, None);
+    script.uses.pop().ok_or_else(|| Fail::new("no use"))
 }
 
 // What a line after a use says.
@@ -34,10 +36,7 @@ fn step_of(rt: &(impl Abort + AllocGlobal), line: &[u8]) -> Result<Step, Fail> {
     text.extend_from_slice(b"use memory 4\n")?;
     text.extend_from_slice(line)?;
     let mut last = last_use(rt, text.as_slice())?;
-    let Some(step) = last.steps.pop() else {
-        return Err(Fail::new("no step"));
-    };
-    Ok(step)
+    last.steps.pop().ok_or_else(|| Fail::new("no step"))
 }
 
 // That a line after a use is bad.
@@ -45,79 +44,107 @@ fn bad(rt: &(impl Abort + AllocGlobal), line: &[u8]) -> Result<(), Fail> {
     let mut text = Vec::new(rt.alloc());
     text.extend_from_slice(b"use memory 4\nopen\nuse memory 4\n")?;
     text.extend_from_slice(line)?;
-    says(rt, text.as_slice(), 1, 4)
+    says(rt, text.as_slice(), 1, Some(4))
 }
 
 #[test]
 fn blank_lines_and_remarks(rt: HostRuntime) -> Result<(), Fail> {
-    says(&rt, b"", 0, 0)?;
-    says(&rt, b"\n\n# none\n#  two  blanks \n", 0, 0)?;
-    says(&rt, b"# one\n\nuse memory 4\n\nopen\n#\nbad", 0, 7)
+    says(&rt, b"", 0, None)?;
+    says(&rt, b"\n\n# none\n#  two  blanks \n", 0, None)?;
+    says(&rt, b"# one\n\nuse memory 4\n\nopen\n#\nbad", 0, Some(7))
 }
 
 #[test]
 fn every_medium(rt: HostRuntime) -> Result<(), Fail> {
-    let Named::Memory { pages } = last_use(&rt, b"use memory 04096")?.named else {
-        return Err(Fail::new("memory"));
-    };
-    assert_eq!(rt; pages, 4096);
-    let Named::Trial { card } = last_use(&rt, b"use trial 4 7 00ffEE\n")?.named else {
-        return Err(Fail::new("trial"));
-    };
-    assert!(rt; card.pages == 4 && card.stop == 7 && card.pattern == 0xffee);
-    let Named::Window { span, card } = last_use(
-        &rt,
-        b"use window 2 3 trial 9 0 ffffffffffffffff",
-    )?.named
-    else {
-        return Err(Fail::new("window"));
-    };
-    assert!(rt;
-        span.first == 2
-            && span.count == 3
-            && card.pages == 9
-            && card.pattern == 0xffff_ffff_ffff_ffff
+    assert_eq!(rt;
+        last_use(&rt, b"use memory 04096")?.named,
+        Named::Memory { pages: 4096 }
+    );
+    assert_eq!(rt;
+        last_use(&rt, b"use trial 4 7 00ffEE\n")?.named,
+        Named::Trial {
+            card: Card {
+                pages: 4,
+                stop: 7,
+                pattern: 0xffee,
+            },
+            under: Layers::Bare,
+        }
+    );
+    assert_eq!(rt;
+        last_use(&rt, b"use window 2 3 trial 9 0 ffffffffffffffff")?.named,
+        Named::Trial {
+            card: Card {
+                pages: 9,
+                stop: 0,
+                pattern: 0xffff_ffff_ffff_ffff,
+            },
+            under: Layers::Window {
+                span: Span { first: 2, count: 3 },
+            },
+        }
     );
     Ok(())
 }
 
 #[test]
 fn every_layer(rt: HostRuntime) -> Result<(), Fail> {
-    let Named::Hold { card } = last_use(&rt, b"use hold trial 4 0 1")?.named else {
-        return Err(Fail::new("hold"));
-    };
-    assert!(rt; card.pages == 4 && card.stop == 0 && card.pattern == 1);
-    let Named::WindowHold { span, card } = last_use(&rt, b"use window 1 2 hold trial 4 0 1")?.named
-    else {
-        return Err(Fail::new("window over hold"));
-    };
-    assert!(rt; span.first == 1 && span.count == 2 && card.pages == 4);
-    let Named::HoldWindow { span, card } = last_use(&rt, b"use hold window 3 4 trial 5 6 7")?.named
-    else {
-        return Err(Fail::new("hold over window"));
-    };
-    assert!(rt;
-        span.first == 3 && span.count == 4 && card.pages == 5 && card.stop == 6 && card.pattern == 7
+    assert_eq!(rt;
+        last_use(&rt, b"use hold trial 4 0 1")?.named,
+        Named::Trial {
+            card: Card {
+                pages: 4,
+                stop: 0,
+                pattern: 1,
+            },
+            under: Layers::Hold,
+        }
+    );
+    assert_eq!(rt;
+        last_use(&rt, b"use window 1 2 hold trial 4 0 1")?.named,
+        Named::Trial {
+            card: Card {
+                pages: 4,
+                stop: 0,
+                pattern: 1,
+            },
+            under: Layers::WindowHold {
+                span: Span { first: 1, count: 2 },
+            },
+        }
+    );
+    assert_eq!(rt;
+        last_use(&rt, b"use hold window 3 4 trial 5 6 7")?.named,
+        Named::Trial {
+            card: Card {
+                pages: 5,
+                stop: 6,
+                pattern: 7,
+            },
+            under: Layers::HoldWindow {
+                span: Span { first: 3, count: 4 },
+            },
+        }
     );
     Ok(())
 }
 
 #[test]
 fn bad_media(rt: HostRuntime) -> Result<(), Fail> {
-    says(&rt, b"use memory 4\nuse memory 4097\nopen", 1, 2)?;
-    says(&rt, b"use memory 4\nuse", 1, 2)?;
-    says(&rt, b"use memory 4\nagain memory\n", 1, 2)?;
-    says(&rt, b"use memory 4 ", 0, 1)?;
-    says(&rt, b"use  memory 4", 0, 1)?;
-    says(&rt, b" use memory 4", 0, 1)?;
-    says(&rt, b"use memory 4\r\n", 0, 1)?;
-    says(&rt, b"use memory 4 4", 0, 1)?;
-    says(&rt, b"use trial 4 0", 0, 1)?;
-    says(&rt, b"use trial 4 0 00000000000000001", 0, 1)?;
-    says(&rt, b"use trial 4 0 g", 0, 1)?;
-    says(&rt, b"use hold memory 4", 0, 1)?;
-    says(&rt, b"use hold hold trial 4 0 1", 0, 1)?;
-    says(&rt, b"use window 1 2 memory 4", 0, 1)
+    says(&rt, b"use memory 4\nuse memory 4097\nopen", 1, Some(2))?;
+    says(&rt, b"use memory 4\nuse", 1, Some(2))?;
+    says(&rt, b"use memory 4\nagain memory\n", 1, Some(2))?;
+    says(&rt, b"use memory 4 ", 0, Some(1))?;
+    says(&rt, b"use  memory 4", 0, Some(1))?;
+    says(&rt, b" use memory 4", 0, Some(1))?;
+    says(&rt, b"use memory 4\r\n", 0, Some(1))?;
+    says(&rt, b"use memory 4 4", 0, Some(1))?;
+    says(&rt, b"use trial 4 0", 0, Some(1))?;
+    says(&rt, b"use trial 4 0 00000000000000001", 0, Some(1))?;
+    says(&rt, b"use trial 4 0 g", 0, Some(1))?;
+    says(&rt, b"use hold memory 4", 0, Some(1))?;
+    says(&rt, b"use hold hold trial 4 0 1", 0, Some(1))?;
+    says(&rt, b"use window 1 2 memory 4", 0, Some(1))
 }
 
 #[test]
@@ -264,30 +291,38 @@ fn bad_fields(rt: HostRuntime) -> Result<(), Fail> {
 fn pokes(rt: HostRuntime) -> Result<(), Fail> {
     let mut last = last_use(&rt, b"use memory 4\nopen\npoke 1 2 abCD\npoke 3 4 -\n")?;
     assert!(rt; last.steps.len() == 1 && last.pokes.len() == 2);
-    let Some(poke) = last.pokes.pop() else {
-        return Err(Fail::new("no poke"));
-    };
+    let poke = last.pokes.pop().ok_or_else(|| Fail::new("no poke"))?;
     assert!(rt; poke.page == 3 && poke.offset == 4 && poke.bytes.is_empty());
-    says(&rt, b"use memory 4\npoke 1 2 00\nopen\nuse memory 4", 0, 3)?;
-    says(&rt, b"use memory 4\npoke 1 2 00\nuse memory 4\nopen", 2, 0)?;
-    says(&rt, b"poke 1 2 00\n", 0, 1)?;
+    says(
+        &rt,
+        b"use memory 4\npoke 1 2 00\nopen\nuse memory 4",
+        0,
+        Some(3),
+    )?;
+    says(
+        &rt,
+        b"use memory 4\npoke 1 2 00\nuse memory 4\nopen",
+        2,
+        None,
+    )?;
+    says(&rt, b"poke 1 2 00\n", 0, Some(1))?;
     bad(&rt, b"poke 1 2")
 }
 
 #[test]
 fn what_a_bad_line_drops(rt: HostRuntime) -> Result<(), Fail> {
-    says(&rt, b"open\nuse memory 4\n", 0, 1)?;
+    says(&rt, b"open\nuse memory 4\n", 0, Some(1))?;
     says(
         &rt,
         b"use memory 4\nopen\nuse memory 4\nopens\nuse memory 4\n",
         1,
-        4,
+        Some(4),
     )?;
     says(
         &rt,
         b"use memory 4\nopen\nagain memory 5000\nuse memory 4\n",
         1,
-        3,
+        Some(3),
     )?;
-    says(&rt, b"use memory 4\nopen\nuses memory 4\n", 0, 3)
+    says(&rt, b"use memory 4\nopen\nuses memory 4\n", 0, Some(3))
 }
