@@ -1,5 +1,5 @@
 -- What the steps of a use do, and the text that they add.
-use Rattle.std.specs.Prelude.{◌≡◌, ℕ, List, [], ◌∷◌, ◌++◌, replicate, is_some, Ok, Result}
+use Rattle.std.specs.Prelude.{◌≡◌, ℕ, List, [], ◌∷◌, ◌++◌, replicate, is_some, codes, decimal, Some, None, Ok, Option, Result}
 use Rattle.medium.specs.declared.fault.MediumFault.{MediumFault}
 use Rattle.medium.specs.Meaning.{Meaning, Read}
 use Rattle.form.specs.declared.item.Item.{Item}
@@ -17,6 +17,11 @@ use Rattle.stage.specs.Lines.{answer_line, asked_line, bytes_line, field_line, l
 -- a text with a line more
 abbrev pub with_line : List ℕ → List ℕ → List ℕ
 with_line text line = (text ++ line) ++ (10 ∷ [])
+
+-- a text with the line that tells of a bad line, if there is one
+abbrev pub with_bad : List ℕ → Option ℕ → List ℕ
+with_bad text None = text
+with_bad text (Some n) = with_line text (codes "bad line " ++ decimal n)
 
 -- a call is made as the store promises, and its answer told
 abbrev pub CallMade : {M : Type 0} → (M → Meaning) → Call Item → Moment M → Moment M → List ℕ → List ℕ → Type 0

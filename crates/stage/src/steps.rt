@@ -1,23 +1,24 @@
 // Making the steps of a use on a store.
-ghost use Rattle.std.specs.Prelude.{◌≡◌, string_bytes, OnOk};
+ghost use Rattle.std.specs.Prelude.{◌≡◌, string_bytes, IfSome, OnOk};
 ghost use Rattle.book.specs.Uses.{moment};
+ghost use Rattle.stage.specs.Lines.{asked_line, medium_line};
 ghost use Rattle.stage.specs.Steps.{CallMade, LayMade, PageTold, StepMade, UseMade, with_line};
 
-use super::tell::{tell_answer, tell_asked, tell_bytes, tell_field, tell_laid, tell_pages};
+use super::tell::{Answer, Dump, Field, Laid};
 use book::{Call, Slips, run};
 use form::{Forms, Item};
 use medium::Medium;
 use script::Step;
 use std::alloc::{AllocError, Global};
+use std::fmt::Display;
 use std::slice::from_ref;
 use store::Store;
 
 // Adds a line to the text.
-pub(super) fn add_line(out: &mut String, line: &str) -> Result<(), AllocError>
-    ensures { OnOk result (string_bytes out.new ≡ with_line (string_bytes out.old) line.now) }
+fn add_line<D: Display + Drop>(out: &mut String, line: D) -> Result<(), AllocError>
+    ensures { OnOk result (IfSome (D.output line) (λ text. string_bytes out.new ≡ with_line (string_bytes out.old) text)) }
 {
-    out.push_str(line)?;
-    out.push_str("\n")
+    writeln!(out, "{line}")
 }
 
 // Makes a call, and tells what it answers.
@@ -32,8 +33,8 @@ fn make_call<M: Medium>(
     ensures { OnOk result (CallMade M.Medium.meaning call.now (moment store.old slips.old work.old) (moment store.new slips.new work.new) (string_bytes out.old) (string_bytes out.new)) }
 {
     let answers = run(store, slips, work, from_ref(call), heap)?;
-    let line = tell_answer(&answers[0], work, heap)?;
-    add_line(out, line.as_str())
+    let answer = &answers[0];
+    add_line(out, Answer { answer, work })
 }
 
 // Lays a file, and tells what came of it.
@@ -43,27 +44,34 @@ fn make_lay<M: Medium>(
     work: &mut [u8],
     pages: usize,
     out: &mut String,
-    heap: Global,
 ) -> Result<(), AllocError>
     ensures { OnOk result (LayMade M.Medium.meaning pages (moment store.old slips.now work.old) (moment store.new slips.now work.new) (string_bytes out.old) (string_bytes out.new)) }
 {
-    let line = tell_laid(store.lay(pages, work), heap)?;
-    add_line(out, line.as_str())
+    add_line(out, Laid(store.lay(pages, work)))
+}
+
+// Tells what a medium says of itself.
+fn ask<M: Medium>(medium: &M, out: &mut String) -> Result<(), AllocError>
+    ensures { OnOk result (string_bytes out.new ≡ with_line (string_bytes out.old) (asked_line (M.Medium.meaning medium.now).pages (M.Medium.meaning medium.now).stopped)) }
+{
+    let pages = medium.pages();
+    let stopped = if medium.stopped() { "yes" } else { "no" };
+    writeln!(out, "pages {pages} stopped {stopped}")
 }
 
 // Tells what a medium shows of a page.
-fn dump_page<M: Medium>(
-    medium: &M,
-    page: usize,
-    out: &mut String,
-    heap: Global,
-) -> Result<(), AllocError>
+fn dump_page<M: Medium>(medium: &M, page: usize, out: &mut String) -> Result<(), AllocError>
     ensures { OnOk result (PageTold (M.Medium.meaning medium.now) page (string_bytes out.old) (string_bytes out.new)) }
 {
     let mut bytes = [0; 1024];
     let answer = medium.read(page, 0, &mut bytes);
-    let line = tell_bytes(answer, &bytes, heap)?;
-    add_line(out, line.as_str())
+    add_line(
+        out,
+        Dump {
+            answer,
+            bytes: &bytes,
+        },
+    )
 }
 
 // Makes one step, and tells what came of it; of a new work page there is nothing to tell.
@@ -82,19 +90,33 @@ fn make_step<M: Medium>(
             *work = vec![in heap; 0; *bytes]?;
             Ok(())
         }
-        Step::Lay { pages } => make_lay(store, slips, work.as_mut_slice(), *pages, out, heap),
+        Step::Lay { pages } => make_lay(store, slips, work.as_mut_slice(), *pages, out),
         Step::Call { call } => make_call(store, slips, work.as_mut_slice(), call, out, heap),
         Step::BadField { slip, bit } => add_line(
             out,
-            tell_field(slips.has(*slip), *bit, heap)?.as_str(),
+            Field {
+                slip: slips.has(*slip),
+                bit: *bit,
+            },
         ),
-        Step::Ask => add_line(
+        Step::Ask => ask(store.medium(), out),
+        Step::DumpWork => add_line(
             out,
-            tell_asked(store.medium().pages(), store.medium().stopped(), heap)?.as_str(),
+            Dump {
+                answer: Ok(()),
+                bytes: work,
+            },
         ),
-        Step::DumpWork => add_line(out, tell_bytes(Ok(()), work, heap)?.as_str()),
-        Step::DumpPage { page } => dump_page(store.medium(), *page, out, heap),
+        Step::DumpPage { page } => dump_page(store.medium(), *page, out),
     }
+}
+
+// Tells the medium that a use begins with.
+fn begin<M: Medium>(medium: &M, out: &mut String) -> Result<(), AllocError>
+    ensures { OnOk result (string_bytes out.new ≡ with_line (string_bytes out.old) (medium_line (M.Medium.meaning medium.now).pages)) }
+{
+    let pages = medium.pages();
+    writeln!(out, "medium {pages} pages")
 }
 
 // Makes the steps of a use, one after the other, with a new work page.
@@ -107,7 +129,7 @@ pub(super) fn make_steps<M: Medium>(
 ) -> Result<(), AllocError>
     ensures { OnOk result (UseMade M.Medium.meaning steps.now store.old store.new slips.old slips.new (string_bytes out.old) (string_bytes out.new)) }
 {
-    add_line(out, tell_pages(store.medium().pages(), heap)?.as_str())?;
+    begin(store.medium(), out)?;
     let mut work = vec![in heap; 0; 1024]?;
     for step in steps {
         make_step(store, slips, &mut work, step, out, heap)?;

@@ -1,11 +1,11 @@
 // What is printed for each call.
-ghost use Rattle.std.specs.Prelude.{◌≡◌, ◌++◌, IfOk, string_bytes, codes, decimal};
-ghost use Rattle.stage.specs.Lines.{answer_line, asked_line, bytes_line, denied_line, done_line, fault_line, field_line, item_line, laid_line, medium_line, refusal_line, step_word};
+ghost use Rattle.std.specs.Prelude.{◌≡◌, Some};
+ghost use Rattle.stage.specs.Lines.{answer_line, bytes_line, denied_line, done_line, fault_line, field_line, item_line, laid_line, refusal_line, step_word};
 
 use book::{Denied, Done};
 use form::Item;
 use medium::MediumFault;
-use std::alloc::{AllocError, Global};
+use std::fmt;
 use store::{Refusal, Step, value_at};
 use text::Hex;
 
@@ -21,118 +21,148 @@ fn step_word(step: Step) -> &'static str
 }
 
 // A refusal of the store, with its place where it has one.
-fn tell_refusal(refusal: Refusal, heap: Global) -> Result<String, AllocError>
-    ensures { IfOk result (λ t. string_bytes t ≡ refusal_line refusal) }
-{
-    let number = refusal.number();
-    match refusal {
-        Refusal::Unsound { page } => format!(in heap; "refused {number} page {page}"),
-        Refusal::Medium { step, page, .. } => {
-            let doing = step_word(step);
-            format!(in heap; "refused {number} {doing} page {page}")
+#[derive(Clone, Copy)]
+struct Refused(Refusal);
+
+impl fmt::Display for Refused {
+    ghost output = { λ x. Some (refusal_line x.0) };
+
+    fn fmt<W: fmt::Write>(&self, f: &mut fmt::Formatter<W>) -> fmt::Result {
+        let number = self.0.number();
+        match self.0 {
+            Refusal::Unsound { page } => write!(f, "refused {number} page {page}"),
+            Refusal::Medium { step, page, .. } => {
+                let doing = step_word(step);
+                write!(f, "refused {number} {doing} page {page}")
+            }
+            _ => write!(f, "refused {number}"),
         }
-        _ => format!(in heap; "refused {number}"),
     }
 }
 
 // Why a call was not accepted.
-fn tell_denied(denied: Denied, heap: Global) -> Result<String, AllocError>
-    ensures { IfOk result (λ t. string_bytes t ≡ denied_line denied) }
-{
-    match denied {
-        Denied::NoSlip => String::from_str(heap, "no slip"),
-        Denied::Store { refusal } => tell_refusal(refusal, heap),
-        Denied::Form { key, refusal } => {
-            let line = tell_refusal(refusal, heap)?;
-            format!(in heap; "{line} key {key}")
-        }
-        Denied::NotOfForm { key, page, bad } => {
-            let number = bad.number();
-            let byte = bad.at;
-            format!(in heap; "refused {number} key {key} page {page} byte {byte}")
+#[derive(Clone, Copy)]
+struct Why(Denied);
+
+impl fmt::Display for Why {
+    ghost output = { λ x. Some (denied_line x.0) };
+
+    fn fmt<W: fmt::Write>(&self, f: &mut fmt::Formatter<W>) -> fmt::Result {
+        match self.0 {
+            Denied::NoSlip => write!(f, "no slip"),
+            Denied::Store { refusal } => write!(f, "{}", Refused(refusal)),
+            Denied::Form { key, refusal } => write!(f, "{} key {key}", Refused(refusal)),
+            Denied::NotOfForm { key, page, bad } => {
+                let number = bad.number();
+                let byte = bad.at;
+                write!(f, "refused {number} key {key} page {page} byte {byte}")
+            }
         }
     }
 }
 
 // A value of a form.
-fn tell_item(item: Item, heap: Global) -> Result<String, AllocError>
-    ensures { IfOk result (λ t. string_bytes t ≡ item_line item) }
-{
-    match item {
-        Item::Cue { cue } => format!(in heap; "ok {cue}"),
-        Item::Still { still } => format!(in heap; "ok {still}"),
+#[derive(Clone, Copy)]
+struct Shown(Item);
+
+impl fmt::Display for Shown {
+    ghost output = { λ x. Some (item_line x.0) };
+
+    fn fmt<W: fmt::Write>(&self, f: &mut fmt::Formatter<W>) -> fmt::Result {
+        match self.0 {
+            Item::Cue { cue } => write!(f, "ok {cue}"),
+            Item::Still { still } => write!(f, "ok {still}"),
+        }
     }
 }
 
 // What an accepted call answered; a value that was looked at is in the work page.
-fn tell_done(done: &Done<Item>, work: &[u8], heap: Global) -> Result<String, AllocError>
-    ensures { IfOk result (λ t. string_bytes t ≡ done_line work.now done.now) }
-{
-    match done {
-        Done::Opened { opened } => {
-            let counter = opened.counter;
-            let pages = opened.pages;
-            let cleared = opened.cleared;
-            format!(in heap; "ok counter {counter} pages {pages} cleared {cleared}")
+#[derive(Clone, Copy)]
+struct Accepted<'a> {
+    done: &'a Done<Item>,
+    work: &'a [u8],
+}
+
+impl fmt::Display for Accepted<'_> {
+    ghost output = { λ x. Some (done_line x.work.now x.done.now) };
+
+    fn fmt<W: fmt::Write>(&self, f: &mut fmt::Formatter<W>) -> fmt::Result {
+        let done = self.done;
+        match done {
+            Done::Opened { opened } => {
+                let counter = opened.counter;
+                let pages = opened.pages;
+                let cleared = opened.cleared;
+                write!(f, "ok counter {counter} pages {pages} cleared {cleared}")
+            }
+            Done::Begun { slip, number } => write!(f, "ok slip {slip} number {number}"),
+            Done::Changed => write!(f, "ok"),
+            Done::Looked { place } => {
+                let at = place.at;
+                let length = place.length;
+                let value = Hex(value_at(self.work, *place));
+                write!(f, "ok place {at} length {length} value {value}")
+            }
+            Done::Key { key } => write!(f, "ok key {key}"),
+            Done::Saved { counter, changes } => write!(f, "ok counter {counter} changes {changes}"),
+            Done::Abandoned => write!(f, "ok"),
+            Done::Value { value } => write!(f, "{}", Shown(*value)),
         }
-        Done::Begun { slip, number } => format!(in heap; "ok slip {slip} number {number}"),
-        Done::Changed => String::from_str(heap, "ok"),
-        Done::Looked { place } => {
-            let at = place.at;
-            let length = place.length;
-            let value = Hex(value_at(work, *place));
-            format!(in heap; "ok place {at} length {length} value {value}")
-        }
-        Done::Key { key } => format!(in heap; "ok key {key}"),
-        Done::Saved { counter, changes } => format!(in heap;
-            "ok counter {counter} changes {changes}"
-        ),
-        Done::Abandoned => String::from_str(heap, "ok"),
-        Done::Value { value } => tell_item(*value, heap),
     }
 }
 
 // What a call answered.
-pub(super) fn tell_answer(
-    answer: &Result<Done<Item>, Denied>,
-    work: &[u8],
-    heap: Global,
-) -> Result<String, AllocError>
-    ensures { IfOk result (λ t. string_bytes t ≡ answer_line work.now answer.now) }
-{
-    match answer {
-        Ok(done) => tell_done(done, work, heap),
-        Err(denied) => tell_denied(*denied, heap),
+#[derive(Clone, Copy)]
+pub(super) struct Answer<'a> {
+    pub(super) answer: &'a Result<Done<Item>, Denied>,
+    pub(super) work: &'a [u8],
+}
+
+impl fmt::Display for Answer<'_> {
+    ghost output = { λ x. Some (answer_line x.work.now x.answer.now) };
+
+    fn fmt<W: fmt::Write>(&self, f: &mut fmt::Formatter<W>) -> fmt::Result {
+        let work = self.work;
+        match self.answer {
+            Ok(done) => write!(f, "{}", Accepted { done, work }),
+            Err(denied) => write!(f, "{}", Why(*denied)),
+        }
     }
 }
 
 // What laying a file answered.
-pub(super) fn tell_laid(answer: Result<(), Refusal>, heap: Global) -> Result<String, AllocError>
-    ensures { IfOk result (λ t. string_bytes t ≡ laid_line answer) }
-{
-    match answer {
-        Ok(()) => String::from_str(heap, "ok"),
-        Err(refusal) => tell_refusal(refusal, heap),
+#[derive(Clone, Copy)]
+pub(super) struct Laid(pub(super) Result<(), Refusal>);
+
+impl fmt::Display for Laid {
+    ghost output = { λ x. Some (laid_line x.0) };
+
+    fn fmt<W: fmt::Write>(&self, f: &mut fmt::Formatter<W>) -> fmt::Result {
+        match self.0 {
+            Ok(()) => write!(f, "ok"),
+            Err(refusal) => write!(f, "{}", Refused(refusal)),
+        }
     }
 }
 
 // A field of a form outside its range, under a slip that is there or not.
-pub(super) fn tell_field(slip: bool, bit: usize, heap: Global) -> Result<String, AllocError>
-    ensures { IfOk result (λ t. string_bytes t ≡ field_line slip bit) }
-{
-    if slip {
-        format!(in heap; "refused 17 bit {bit}")
-    } else {
-        String::from_str(heap, "no slip")
-    }
+#[derive(Clone, Copy)]
+pub(super) struct Field {
+    pub(super) slip: bool,
+    pub(super) bit: usize,
 }
 
-// What a medium says of itself.
-pub(super) fn tell_asked(pages: usize, stopped: bool, heap: Global) -> Result<String, AllocError>
-    ensures { IfOk result (λ t. string_bytes t ≡ asked_line pages stopped) }
-{
-    let said = if stopped { "yes" } else { "no" };
-    format!(in heap; "pages {pages} stopped {said}")
+impl fmt::Display for Field {
+    ghost output = { λ x. Some (field_line x.slip x.bit) };
+
+    fn fmt<W: fmt::Write>(&self, f: &mut fmt::Formatter<W>) -> fmt::Result {
+        if self.slip {
+            let bit = self.bit;
+            write!(f, "refused 17 bit {bit}")
+        } else {
+            write!(f, "no slip")
+        }
+    }
 }
 
 // Why a medium refused to read.
@@ -146,32 +176,19 @@ fn fault_line(fault: MediumFault) -> &'static str
 }
 
 // Bytes, or why a medium refused to read them.
-pub(super) fn tell_bytes(
-    answer: Result<(), MediumFault>,
-    bytes: &[u8],
-    heap: Global,
-) -> Result<String, AllocError>
-    ensures { IfOk result (λ t. string_bytes t ≡ bytes_line bytes.now answer) }
-{
-    match answer {
-        Ok(()) => {
-            let hex = Hex(bytes);
-            format!(in heap; "{hex}")
+#[derive(Clone, Copy)]
+pub(super) struct Dump<'a> {
+    pub(super) answer: Result<(), MediumFault>,
+    pub(super) bytes: &'a [u8],
+}
+
+impl fmt::Display for Dump<'_> {
+    ghost output = { λ x. Some (bytes_line x.bytes.now x.answer) };
+
+    fn fmt<W: fmt::Write>(&self, f: &mut fmt::Formatter<W>) -> fmt::Result {
+        match self.answer {
+            Ok(()) => write!(f, "{}", Hex(self.bytes)),
+            Err(fault) => f.write_str(fault_line(fault)),
         }
-        Err(fault) => String::from_str(heap, fault_line(fault)),
     }
-}
-
-// A medium that a use begins with.
-pub(super) fn tell_pages(pages: usize, heap: Global) -> Result<String, AllocError>
-    ensures { IfOk result (λ t. string_bytes t ≡ medium_line pages) }
-{
-    format!(in heap; "medium {pages} pages")
-}
-
-// The line that is not of the grammar.
-pub(super) fn tell_bad_line(n: usize, heap: Global) -> Result<String, AllocError>
-    ensures { IfOk result (λ t. string_bytes t ≡ codes "bad line " ++ decimal n) }
-{
-    format!(in heap; "bad line {n}")
 }

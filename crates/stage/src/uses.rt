@@ -1,30 +1,14 @@
 // Running a script from its first use to its last.
-ghost use Rattle.std.specs.Prelude.{◌≡◌};
-ghost use Rattle.stage.specs.Pokes.{pages_of};
+ghost use Rattle.std.specs.Prelude.{◌≡◌, string_bytes, OnOk};
+ghost use Rattle.stage.specs.Steps.{with_bad};
 
 use super::lend::{put_poke, refit};
 use super::piles::{holding, holding_through, over, through, through_holding};
-use super::steps::add_line;
-use super::tell::tell_bad_line;
 use book::Slips;
 use medium::{Medium, Memory, Trial};
-use script::{Card, Named, Script, Step, Use};
+use script::{Card, Layers, Named, Script, Step, Use};
 use std::alloc::{AllocError, Global};
 use store::Store;
-
-// How many pages the bytes of a medium have.
-fn pages_of(named: Named) -> usize
-    ensures { result ≡ pages_of named }
-{
-    match named {
-        Named::Memory { pages } => pages,
-        Named::Trial { card } => card.pages,
-        Named::Window { card, .. } => card.pages,
-        Named::Hold { card } => card.pages,
-        Named::WindowHold { card, .. } => card.pages,
-        Named::HoldWindow { card, .. } => card.pages,
-    }
-}
 
 // Makes steps on a memory medium over bytes.
 fn on_memory(
@@ -42,20 +26,20 @@ fn on_memory(
 // Makes steps on a trial medium over bytes, under the layers that are named.
 fn on_trial(
     bytes: &mut [u8],
-    named: Named,
     card: Card,
+    under: Layers,
     slips: &mut Slips,
     steps: &[Step],
     out: &mut String,
     heap: Global,
 ) -> Result<(), AllocError> {
     let trial = Trial::new(bytes, card.stop, card.pattern);
-    let (trial, done) = match named {
-        Named::Window { span, .. } => through(trial, span, slips, steps, out, heap),
-        Named::Hold { .. } => holding(trial, slips, steps, out, heap),
-        Named::WindowHold { span, .. } => through_holding(trial, span, slips, steps, out, heap),
-        Named::HoldWindow { span, .. } => holding_through(trial, span, slips, steps, out, heap),
-        _ => over(trial, slips, steps, out, heap),
+    let (trial, done) = match under {
+        Layers::Bare => over(trial, slips, steps, out, heap),
+        Layers::Window { span } => through(trial, span, slips, steps, out, heap),
+        Layers::Hold => holding(trial, slips, steps, out, heap),
+        Layers::WindowHold { span } => through_holding(trial, span, slips, steps, out, heap),
+        Layers::HoldWindow { span } => holding_through(trial, span, slips, steps, out, heap),
     };
     let _ = trial.into_bytes();
     done
@@ -72,11 +56,17 @@ fn make_use(
     let steps = of.steps.as_slice();
     match of.named {
         Named::Memory { .. } => on_memory(bytes, slips, steps, out, heap),
-        Named::Trial { card } => on_trial(bytes, of.named, card, slips, steps, out, heap),
-        Named::Window { card, .. } => on_trial(bytes, of.named, card, slips, steps, out, heap),
-        Named::Hold { card } => on_trial(bytes, of.named, card, slips, steps, out, heap),
-        Named::WindowHold { card, .. } => on_trial(bytes, of.named, card, slips, steps, out, heap),
-        Named::HoldWindow { card, .. } => on_trial(bytes, of.named, card, slips, steps, out, heap),
+        Named::Trial { card, under } => on_trial(bytes, card, under, slips, steps, out, heap),
+    }
+}
+
+// Tells the line that is not of the grammar, if there is one.
+fn tell_bad(bad: Option<usize>, out: &mut String) -> Result<(), AllocError>
+    ensures { OnOk result (string_bytes out.new ≡ with_bad (string_bytes out.old) bad) }
+{
+    match bad {
+        Some(n) => writeln!(out, "bad line {n}"),
+        None => Ok(()),
     }
 }
 
@@ -92,16 +82,13 @@ fn make_uses(
         if !of.again {
             bytes.clear();
         }
-        refit(&mut bytes, pages_of(of.named).saturating_mul(1024))?;
+        refit(&mut bytes, of.named.pages().saturating_mul(1024))?;
         make_use(&mut bytes, of, slips, out, heap)?;
         for poke in of.pokes.iter() {
             put_poke(&mut bytes, poke);
         }
     }
-    match script.bad {
-        Some(n) => add_line(out, tell_bad_line(n, heap)?.as_str()),
-        None => Ok(()),
-    }
+    tell_bad(script.bad, out)
 }
 
 // Runs a script, with a store over a medium at which every slip left is abandoned in the end.

@@ -14,7 +14,5 @@ loop-step-preserved g c =
 
 pub returns : goal.returns
 returns g c =
-    let pages = c.pages.ensures ∙ ap (λ m. (g.M.Medium.meaning m).pages) c.medium.ensures in
-    let line = c.as_str.ensures.value ∙ c.in_ok-tell_pages.ensures ∙ ap medium_line pages in
-    let text = c.in_ok-add_line.ensures ∙ ap (with_line (string_bytes c.args.out.now)) line in
+    let text = c.in_ok-begin.ensures ∙ ap (λ m. with_line (string_bytes c.args.out.now) (medium_line (g.M.Medium.meaning m).pages)) c.medium.ensures in
     (vec_items c.loop-step.work, steps_all g.M.Medium.meaning c.args.steps.now c.loop-step.step-index _ _ _ _ _ _ _ _ _ c.loop-step-test.false (search rules) text c.loop-step.invariant)
