@@ -3,6 +3,7 @@
 
 mod lend;
 mod piles;
+mod stage;
 mod steps;
 mod tell;
 mod uses;
