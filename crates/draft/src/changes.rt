@@ -1,5 +1,5 @@
 // The changes of a page.
-ghost use Rattle.std.specs.Prelude.{◌<◌, ◌≤◌, length};
+ghost use Rattle.std.specs.Prelude.{◌<◌};
 ghost use Rattle.arrayvec.specs.ArrayVec.{array_vec_len};
 ghost use Rattle.draft.specs.Added.{Added};
 ghost use Rattle.draft.specs.Images.{ChangedPage, PutPage, RemovedPage};
@@ -10,6 +10,7 @@ use super::load::{Slots, draft_slots, first_slots, target};
 use super::order::{index_for, index_of};
 use super::place::place;
 use super::refusal::PageRefusal;
+use super::value::Value;
 use super::write::write_record;
 use layout::{Slot, valid};
 
@@ -21,12 +22,12 @@ impl Draft {
         page: &mut [u8; 1024],
         mut slots: Slots,
         key: u32,
-        value: &[u8],
+        value: Value<'_>,
     ) -> Result<(), PageRefusal>
-        requires { (length value.now ≤ 200) × (array_vec_len slots < 24) }
-        ensures { Added self.counter page.old page.new key value.now slots.items result }
+        requires { array_vec_len slots < 24 }
+        ensures { Added self.counter page.old page.new key value.entry.bytes.now slots.items result }
     {
-        let n = 4 + value.len();
+        let n = 4 + value.bytes.len();
         let header = valid(page, self.counter);
         let saved = first_slots(page, header);
         let at = place(&saved, &slots, n).ok_or(PageRefusal::NoPlace)?;
@@ -39,15 +40,14 @@ impl Draft {
             },
         );
         let side = target(page, self.counter);
-        write_record(&mut page[at..at + n], key, value);
+        write_record(&mut page[at..at + n], key, value.bytes);
         write_header(page, side, self.counter + 1, &slots);
         Ok(())
     }
 
     // Puts a record of a new key into the draft of a page.
-    pub fn put(self, page: &mut [u8; 1024], key: u32, value: &[u8]) -> Result<(), PageRefusal>
-        requires { length value.now ≤ 200 }
-        ensures { PutPage self.counter page.old page.new key value.now result }
+    pub fn put(self, page: &mut [u8; 1024], key: u32, value: Value<'_>) -> Result<(), PageRefusal>
+        ensures { PutPage self.counter page.old page.new key value.entry.bytes.now result }
     {
         let slots = draft_slots(page, self.counter);
         if index_of(page, &slots, key).is_some() {
@@ -60,9 +60,13 @@ impl Draft {
     }
 
     // Gives a key of the draft another value.
-    pub fn change(self, page: &mut [u8; 1024], key: u32, value: &[u8]) -> Result<(), PageRefusal>
-        requires { length value.now ≤ 200 }
-        ensures { ChangedPage self.counter page.old page.new key value.now result }
+    pub fn change(
+        self,
+        page: &mut [u8; 1024],
+        key: u32,
+        value: Value<'_>,
+    ) -> Result<(), PageRefusal>
+        ensures { ChangedPage self.counter page.old page.new key value.entry.bytes.now result }
     {
         let mut slots = draft_slots(page, self.counter);
         let own = index_of(page, &slots, key).ok_or(PageRefusal::NoSuchKey)?;

@@ -8,7 +8,9 @@ mod load;
 mod order;
 mod place;
 mod refusal;
+mod value;
 mod write;
 
 pub use draft::Draft;
 pub use refusal::PageRefusal;
+pub use value::Value;

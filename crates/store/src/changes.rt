@@ -8,7 +8,7 @@ use super::change::Change;
 use super::refusal::Refusal;
 use super::slip::Slip;
 use super::store::Store;
-use draft::{Draft, PageRefusal};
+use draft::{Draft, PageRefusal, Value};
 use medium::Medium;
 
 impl Change {
@@ -18,10 +18,9 @@ impl Change {
         draft: Draft,
         page: &mut [u8; 1024],
         key: u32,
-        value: &[u8],
+        value: Value<'_>,
     ) -> Result<(), PageRefusal>
-        requires { length value.now ≤ 200 }
-        ensures { page_change self key value.now draft.counter page.old page.new result }
+        ensures { page_change self key value.entry.bytes.now draft.counter page.old page.new result }
     {
         match self {
             Change::Put => draft.put(page, key, value),
@@ -53,7 +52,7 @@ impl<M: Medium> Store<M> {
         let draft = Draft {
             counter: first.counter,
         };
-        change.apply(draft, page, key, value)?;
+        change.apply(draft, page, key, Value { bytes: value })?;
         self.offer(q, page)
     }
 

@@ -18,8 +18,7 @@ impl State {
     {
         match self {
             State::Shut => None,
-            State::Open { first } => Some(*first),
-            State::Editing { first } => Some(*first),
+            State::Open { first } | State::Editing { first } => Some(*first),
         }
     }
 }

@@ -18,6 +18,6 @@ returns c =
     let n : c.index_of.result ≡ None = grind arith in
     let f = found_in c.args.page.now c.args.key (draft_slots c.args.self.counter c.args.page.now) c.deref.result.now c.index_of.result None
     (c.deref.ensures.0 ∙ e) c.index_of.ensures n in
-    put_from_added c.args.self.counter c.args.page.now c.add.new.page c.args.key c.args.value.now c.add.result f
+    put_from_added c.args.self.counter c.args.page.now c.add.new.page c.args.key c.args.value.bytes.now c.add.result f
     (subst (λ ss. length ss < 24) e (grind (arith, common_steps)))
-    (subst (λ ss. Added c.args.self.counter c.args.page.now c.add.new.page c.args.key c.args.value.now ss c.add.result) e c.add.ensures)
+    (subst (λ ss. Added c.args.self.counter c.args.page.now c.add.new.page c.args.key c.args.value.bytes.now ss c.add.result) e c.add.ensures)

@@ -1,13 +1,9 @@
 use Rattle.std.proofs.Common.{ltb, length, Ok, Err, refl, subst, inl}
-use Rattle.std.proofs.lemmas.Bool.{ltb-false}
 use Rattle.std.proofs.lemmas.Result.{err_from_is_err_and}
 use Rattle.store.specs.Access.{Loads}
 use Rattle.store.specs.Edits.{PageChange, page_change}
 use Rattle.store.proofs.EditWays.{edit_offered, edit_unchanged, edit_unread, ready_at}
 use Rattle.store.proofs.store.Store.edit.Goals as goal
-
-pub apply-requires : goal.apply-requires
-apply-requires g c = ltb-false 200 (length c.args.value.now) c.in_ok-first.ensures.2
 
 pub returns-in_err-first-clause-edits : goal.returns-in_err-first-clause-edits
 returns-in_err-first-clause-edits g c =
