@@ -6,6 +6,9 @@ use Rattle.store.specs.declared.slip.Slip.{Slip}
 use Rattle.store.specs.declared.store.Store.{Store}
 use Rattle.book.specs.Uses.{Moment}
 use Rattle.script.specs.declared.script.Step.{Step}
+use Rattle.book.specs.declared.slips.Slips.{Slips}
+use Rattle.script.specs.declared.script.Use.{Use}
+use Rattle.stage.specs.Scripts.{NamedMade, UsesMade, begun}
 use Rattle.stage.specs.Steps.{StepMade, StepsMade}
 
 -- of a failure nothing is promised
@@ -42,3 +45,28 @@ module _ {M : Type 0} (meaning : M → Meaning) where
       (subst (λ z. StepsMade meaning (take i xs) (record { store = a; slips = z; work = replicate 1024 0 }) (record { store = b; slips = y; work = w }) s' t) d
       (subst (λ z. StepsMade meaning (take i xs) (record { store = a; slips = x; work = z }) (record { store = b; slips = y; work = w }) s' t) e
       (subst (λ z. StepsMade meaning (take i xs) (record { store = a; slips = x; work = v }) (record { store = b; slips = y; work = w }) z t) f p)))
+
+longest : (us : List Use) (i : ℕ) (u : Use) (x y z : Slips) (s t r b w : List ℕ) → i < length us → u ≡ get_or us i u → w ≡ begun u b
+    → UsesMade (take i us) x y s t → NamedMade u.named u.steps.items y z t r w → UsesMade (take (suc i) us) x z s r
+longest [] i u x y z s t r b w l is e done made = absurd (omega (arith, l))
+longest (v ∷ vs) zero u x y z s t r b w l is e (same, still) made = (
+  z,
+  r,
+  b,
+  subst (λ k. NamedMade k.named k.steps.items x z s r (begun k b)) is
+      (subst (λ k. NamedMade u.named u.steps.items x z s r k) e
+      (subst (λ k. NamedMade u.named u.steps.items k z s r w) same (subst (λ k. NamedMade u.named u.steps.items y z k r w) still made))),
+  (refl, refl),
+)
+longest (v ∷ vs) (suc i) u x y z s t r b w l is e (c, q, d, first, rest) made = (c, q, d, first, longest vs i u c y z q t r b w (omega (arith, l)) is e rest made)
+
+-- one use more
+pub uses_more : (us : List Use) (i : ℕ) (u : Use) (x y z : Slips) (s t r b w : List ℕ) → i < length us → u ≡ get_or us i u → w ≡ begun u b
+    → UsesMade (take i us) x y s t → NamedMade u.named u.steps.items y z t r w → UsesMade (take (i + 1) us) x z s r
+uses_more us i u x y z s t r b w l is e done made =
+    let next : suc i ≡ i + 1 = omega arith in
+    subst (λ n. UsesMade (take n us) x z s r) next (longest us i u x y z s t r b w l is e done made)
+
+-- all of them
+pub uses_all : (us : List Use) (i : ℕ) (x y : Slips) (s t : List ℕ) → length us ≤ i → UsesMade (take i us) x y s t → UsesMade us x y s t
+uses_all us i x y s t l p = subst (λ z. UsesMade z x y s t) (take_all i us l) p

@@ -1,4 +1,5 @@
 pub mod Lines
 pub mod Piles
 pub mod Pokes
+pub mod Scripts
 pub mod Steps

@@ -1,6 +1,6 @@
 // The bytes that media are made over, from use to use.
 ghost use Rattle.std.specs.Prelude.{◌≡◌, ◌+◌, ◌-◌, ◌*◌, ◌^◌, ◌<◌, ◌++◌, length, take, replicate, vec_len, OnOk};
-ghost use Rattle.stage.specs.Pokes.{poked};
+ghost use Rattle.stage.specs.Pokes.{poked, poked_all};
 
 use octets::{part, patch};
 use script::Poke;
@@ -25,10 +25,19 @@ fn put_within(bytes: &mut [u8], start: usize, new: &[u8])
 }
 
 // Puts a poke's bytes.
-pub(super) fn put_poke(bytes: &mut [u8], poke: &Poke)
+fn put_poke(bytes: &mut [u8], poke: &Poke)
     ensures { bytes.new ≡ poked bytes.old (poke.now.page * 1024 + poke.now.offset) poke.now.bytes.items }
 {
     // a place that does not fit 64 bits passes the end as well
     let start = poke.page.saturating_mul(1024).saturating_add(poke.offset);
     put_within(bytes, start, poke.bytes.as_slice());
+}
+
+// Puts the bytes of pokes, one after the other.
+pub(super) fn put_pokes(bytes: &mut [u8], pokes: &[Poke])
+    ensures { bytes.new ≡ poked_all bytes.old pokes.now }
+{
+    for poke in pokes {
+        put_poke(bytes, poke);
+    }
 }
