@@ -10,7 +10,7 @@ use store::Change;
 
 impl<'a, M: Medium> Desk<'a, M> {
     // Makes a call, and tells what it answers.
-    pub(super) fn make<F: Forms>(&mut self, call: &Call<F, u8>) -> Result<Done<F>, Denied>
+    pub(super) fn make<F: Forms>(&mut self, call: &Call<F, F::Kind>) -> Result<Done<F>, Denied>
         requires { vec_len self.old.slips.now.given < vec_capacity self.old.slips.now.given }
         ensures makes { Makes M.Medium.meaning F.Forms.bytes F.Forms.reads call.now result (at_desk self.old) (at_desk self.new) }
         ensures room { (vec_capacity self.new.slips.now.given ≡ vec_capacity self.old.slips.now.given) × (vec_len self.new.slips.now.given ≤ vec_len self.old.slips.now.given + 1) }

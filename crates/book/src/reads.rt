@@ -10,7 +10,7 @@ use store::value_at;
 
 impl<'a, M: Medium> Desk<'a, M> {
     // Looks at a key's record and reads it under the form of a kind.
-    pub(super) fn look_form<F: Forms>(&mut self, key: u32, of: u8) -> Result<Done<F>, Denied>
+    pub(super) fn look_form<F: Forms>(&mut self, key: u32, of: F::Kind) -> Result<Done<F>, Denied>
         ensures looks { LooksUnder M.Medium.meaning (F.Forms.reads of) key (at_desk self.old) (at_desk self.new) result }
         ensures store { self.new.store.now ≡ self.old.store.now }
         ensures slips { self.new.slips.now ≡ self.old.slips.now }

@@ -16,7 +16,7 @@ pub fn run<M: Medium, F: Forms + Drop>(
     store: &mut Store<M>,
     slips: &mut Slips,
     work: &mut [u8],
-    calls: &[Call<F, u8>],
+    calls: &[Call<F, F::Kind>],
     heap: Global,
 ) -> Result<Vec<Result<Done<F>, Denied>>, AllocError>
     ensures ran { MatchResult result (λ answers. Ran M.Medium.meaning F.Forms.bytes F.Forms.reads calls.now answers.items (moment store.old slips.old work.old) (moment store.new slips.new work.new)) (λ _. moment store.new slips.new work.new ≡ moment store.old slips.old work.old) }

@@ -10,14 +10,14 @@ loop-record-init c r = subst (λ es. Least (Offered c.args.least c.args.best es)
 pub loop-record-preserved-then-record-least : goal.loop-record-preserved-then-record-least
 loop-record-preserved-then-record-least c r h =
     c.loop-record.invariant r
-    (near_taken c.args.least c.loop-record.nearest (seen c.in-Some.record) (rest c.next.new.self) (rest c.loop-record.records) r c.in-Some.ensures
+    (near_taken c.args.least c.loop-record.nearest (seen c.in-Some.record) (rest c.next.new.self) (rest c.loop-record.records) r c.in-Some.ensures.steps
     c.lesser-nearest.result c.if-record-least.true c.lesser-nearest.ensures h)
 
 pub loop-record-preserved : goal.loop-record-preserved
 loop-record-preserved c r h =
     c.loop-record.invariant r
-    (near_passed c.args.least c.loop-record.nearest (seen c.in-Some.record) (rest c.next.new.self) (rest c.loop-record.records) r c.in-Some.ensures
+    (near_passed c.args.least c.loop-record.nearest (seen c.in-Some.record) (rest c.next.new.self) (rest c.loop-record.records) r c.in-Some.ensures.steps
     c.if-record-least.false h)
 
 pub returns : goal.returns
-returns c = c.loop-record.invariant c.loop-record.nearest (near_end c.args.least c.loop-record.nearest (rest c.loop-record.records) c.in_default.ensures.0)
+returns c = c.loop-record.invariant c.loop-record.nearest (near_end c.args.least c.loop-record.nearest (rest c.loop-record.records) c.in_default.ensures.steps.0)
