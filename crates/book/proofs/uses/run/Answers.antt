@@ -1,5 +1,5 @@
 use Rattle.std.proofs.Common.{vec_items, arith, rules}
-use Rattle.std.proofs.lemmas.Grind.{common_steps}
+use Rattle.std.proofs.lemmas.List.{take_all}
 use Rattle.book.specs.Uses.{at_desk}
 use Rattle.book.proofs.Running.{ran_more}
 use Rattle.book.proofs.Securing.{ran_secure}
@@ -18,5 +18,7 @@ loop-call-preserved g c = record {
 
 pub returns-clause-secure : goal.returns-clause-secure
 returns-clause-secure g c =
+    let all = take_all c.loop-call.call-index c.args.calls.now (omega (arith, c.loop-call-test.false)) in
+    let ran = rw all at c.loop-call.invariant.ran in
     ran_secure g.M.Medium.meaning g.M.Medium.sized g.F.Forms.kind g.F.Forms.bytes g.F.Forms.reads g.met.F.Forms.there
-    c.args.calls.now (vec_items c.loop-call.answers) _ _ (grind (arith, common_steps))
+    c.args.calls.now (vec_items c.loop-call.answers) _ _ (search (rules, ran))
