@@ -6,7 +6,7 @@ ghost use Rattle.draft.specs.Images.{ChangedPage, PutPage, RemovedPage};
 
 use super::draft::Draft;
 use super::header::write_header;
-use super::load::{Slots, draft_slots, first_slots, target};
+use super::load::{Slots, first_slots, target};
 use super::order::{index_for, index_of};
 use super::place::place;
 use super::refusal::PageRefusal;
@@ -49,7 +49,7 @@ impl Draft {
     pub fn put(self, page: &mut [u8; 1024], key: u32, value: Value<'_>) -> Result<(), PageRefusal>
         ensures { PutPage self.counter page.old page.new key value.entry.bytes.now result }
     {
-        let slots = draft_slots(page, self.counter);
+        let slots = self.load(page);
         if index_of(page, &slots, key).is_some() {
             return Err(PageRefusal::KeyInDraft);
         }
@@ -68,7 +68,7 @@ impl Draft {
     ) -> Result<(), PageRefusal>
         ensures { ChangedPage self.counter page.old page.new key value.entry.bytes.now result }
     {
-        let mut slots = draft_slots(page, self.counter);
+        let mut slots = self.load(page);
         let own = index_of(page, &slots, key).ok_or(PageRefusal::NoSuchKey)?;
         // its own bytes may be written again, unless they are saved
         slots.remove(own);
@@ -79,7 +79,7 @@ impl Draft {
     pub fn remove(self, page: &mut [u8; 1024], key: u32) -> Result<(), PageRefusal>
         ensures { RemovedPage self.counter page.old page.new key result }
     {
-        let mut slots = draft_slots(page, self.counter);
+        let mut slots = self.load(page);
         let i = index_of(page, &slots, key).ok_or(PageRefusal::NoSuchKey)?;
         slots.remove(i);
         let side = target(page, self.counter);

@@ -1,10 +1,11 @@
 // The slots of a draft, and the headers that a change reads and writes.
-ghost use Rattle.std.specs.Prelude.{◌≡◌, ◌+◌, ◌^◌, ◌<◌, ◌==◌, [], ◌∷◌, map, take};
+ghost use Rattle.std.specs.Prelude.{◌≡◌, ◌+◌, ◌==◌, [], ◌∷◌, map, take};
 ghost use Rattle.std.specs.List.{find};
 ghost use Rattle.layout.specs.declared.header.Side.TheVariants.{A, B};
 ghost use Rattle.layout.specs.Pages.{header_of, slots_by};
 ghost use Rattle.draft.specs.Drafts.{begun_side, draft_slots, slots_on, target};
 
+use super::draft::Draft;
 use arrayvec::ArrayVec;
 use layout::{Header, Side, Slot, valid};
 
@@ -21,25 +22,6 @@ pub(super) fn target(page: &[u8], counter: u32) -> Side
     }
 }
 
-// The header that was begun under a counter: the one numbered one more.
-fn begun(page: &[u8], counter: u32) -> Option<Header>
-    requires { counter + 1 < 2 ^ 32 }
-    ensures { result ≡ find (λ h. h.number == counter + 1) (map (header_of page.now) (A ∷ B ∷ [])) }
-{
-    [Side::A, Side::B]
-        .into_iter()
-        .map(|side| Header::read(page, side))
-        .find(|header| header.number == counter + 1)
-}
-
-// The header whose slots are the draft's: the one that was begun, else the valid one.
-fn drafted(page: &[u8], counter: u32) -> Option<Header>
-    requires { counter + 1 < 2 ^ 32 }
-    ensures { slots_by page.now result ≡ slots_on counter page.now (begun_side counter page.now) }
-{
-    begun(page, counter).or(valid(page, counter))
-}
-
 // The slots of a header, at most 24; none of no header.
 pub(super) fn first_slots(page: &[u8], header: Option<Header>) -> Slots
     ensures { result.items ≡ take 24 (slots_by page.now header) }
@@ -53,10 +35,29 @@ pub(super) fn first_slots(page: &[u8], header: Option<Header>) -> Slots
     slots
 }
 
-// The slots of a draft.
-pub(super) fn draft_slots(page: &[u8], counter: u32) -> Slots
-    requires { counter + 1 < 2 ^ 32 }
-    ensures { result.items ≡ draft_slots counter page.now }
-{
-    first_slots(page, drafted(page, counter))
+impl Draft {
+    // The header that was begun: the one numbered one more than the counter.
+    fn begun(self, page: &[u8]) -> Option<Header>
+        ensures { result ≡ find (λ h. h.number == self.counter + 1) (map (header_of page.now) (A ∷ B ∷ [])) }
+    {
+        let next = self.counter + 1;
+        [Side::A, Side::B]
+            .into_iter()
+            .map(|side| Header::read(page, side))
+            .find(|header| header.number == next)
+    }
+
+    // The header whose slots are the draft's: the one that was begun, else the valid one.
+    fn header(self, page: &[u8]) -> Option<Header>
+        ensures { slots_by page.now result ≡ slots_on self.counter page.now (begun_side self.counter page.now) }
+    {
+        self.begun(page).or(valid(page, self.counter))
+    }
+
+    // The slots of the draft.
+    pub(super) fn load(self, page: &[u8]) -> Slots
+        ensures { result.items ≡ draft_slots self.counter page.now }
+    {
+        first_slots(page, self.header(page))
+    }
 }
