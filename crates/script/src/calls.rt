@@ -1,5 +1,5 @@
 // The words of a use's calls.
-ghost use Rattle.std.specs.Prelude.{◌≤◌, IfOk};
+ghost use Rattle.std.specs.Prelude.{ℕ, ◌≤◌, Option, IfOk};
 ghost use Rattle.script.specs.Ranges.{work_of};
 
 use super::fault::Fault;
@@ -45,6 +45,7 @@ fn fields<T, F: FnOnce(Option<u32>, Option<u32>, Option<u32>, Option<u32>) -> Re
     make: F,
 ) -> Result<Result<T, BadField>, Fault>
     requires { F.IsAlwaysCallable make }
+    ensures { IfOk result (λ made. (a : Option ℕ) × (b : Option ℕ) × (c : Option ℕ) × (d : Option ℕ) × F.post make a b c d made) }
 {
     let [first, second, third, fourth] = names;
     let first = field(words, first)?;
