@@ -24,8 +24,7 @@ fn nearest_on(page: &[u8], counter: u32, least: u32, best: Option<u32>) -> Optio
     ensures { Least (Offered least best (records counter page.now)) result }
 {
     let mut nearest = best;
-    let mut records = Records::new(page, counter);
-    while let Some(record) = records.next() {
+    for record in Records::new(page, counter) {
         if record.key >= least {
             nearest = lesser(nearest, record.key);
         }
