@@ -1,2 +1,1 @@
-mod Poking
 mod Stepping

@@ -1,5 +1,5 @@
 -- Steps by their parts.
-use Rattle.std.proofs.Common.{◌≡◌, ℕ, zero, suc, ◌+◌, ◌<◌, ◌≤◌, true, List, [], ◌∷◌, length, get_or, take, replicate, is_err, IfOk, Ok, Err, Option, Result, sym, refl, subst, true≢false, arith}
+use Rattle.std.proofs.Common.{◌≡◌, ℕ, zero, suc, ◌+◌, ◌<◌, ◌≤◌, List, [], ◌∷◌, length, get_or, take, replicate, IfOk, Ok, Err, Option, Result, refl, subst, arith}
 use Rattle.std.proofs.lemmas.List.{take_all}
 use Rattle.medium.specs.Meaning.{Meaning}
 use Rattle.store.specs.declared.slip.Slip.{Slip}
@@ -10,11 +10,6 @@ use Rattle.book.specs.declared.slips.Slips.{Slips}
 use Rattle.script.specs.declared.script.Use.{Use}
 use Rattle.stage.specs.Scripts.{NamedMade, UsesMade, begun}
 use Rattle.stage.specs.Steps.{StepMade, StepsMade}
-
--- of a failure nothing is promised
-pub failed : {X Y : Type 0} (r : Result X Y) (P : X → Type 0) → is_err r ≡ true → IfOk r P
-failed (Ok x) P e = absurd (true≢false (sym e))
-failed (Err y) P e = tt
 
 -- what is promised of a success may be said in other words
 pub made_map : {X Y : Type 0} (r : Result X Y) (P Q : X → Type 0) → ((x : X) → P x → Q x) → IfOk r P → IfOk r Q

@@ -1,11 +1,8 @@
 use Rattle.std.proofs.Common.{◌≡◌, vec_items, string_bytes, ap, ◌∙◌, rules}
 use Rattle.stage.specs.Lines.{medium_line}
 use Rattle.stage.specs.Steps.{with_line}
-use Rattle.stage.proofs.Stepping.{failed, steps_all, steps_more}
+use Rattle.stage.proofs.Stepping.{steps_all, steps_more}
 use Rattle.stage.proofs.stage.Stage.make_steps.Goals as goal
-
-pub returns-in_err-make_step : goal.returns-in_err-make_step
-returns-in_err-make_step g c = failed c.from_residual-in_err-make_step.result _ c.from_residual-in_err-make_step.ensures.0
 
 pub loop-step-preserved : goal.loop-step-preserved
 loop-step-preserved g c =
