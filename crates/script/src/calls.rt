@@ -1,5 +1,6 @@
 // The words of a use's calls.
-ghost use Rattle.std.specs.Prelude.{ℕ, ◌≤◌, Option, IfOk};
+ghost use Rattle.std.specs.Prelude.{ℕ, ◌≤◌, List, Option, IfOk};
+ghost use Rattle.form.specs.Fields.{Makes};
 ghost use Rattle.script.specs.Ranges.{work_of};
 
 use super::fault::Fault;
@@ -7,16 +8,11 @@ use super::numbers::{hex, number};
 use super::script::Step;
 use super::words::{Words, check_end, next_number, next_word};
 use book::Call;
-use form::{BadField, Cue, Item, Still};
+use form::{BadField, Cue, Fielded, Item, ItemKind, Still, from_values};
 use std::alloc::Global;
 
 // The most bytes that a work page has.
 const MOST: u32 = 4096;
-
-// The kinds of the forms.
-const CUE: u8 = 0;
-
-const STILL: u8 = 1;
 
 // A record's value as a line gives it: bytes, or a form's value.
 #[derive(Drop)]
@@ -25,12 +21,13 @@ enum Said {
     Item { item: Item },
 }
 
-// A field, where the next word is that field's.
-fn field(words: &mut Words, name: &[u8]) -> Result<Option<u32>, Fault> {
-    let Some(word) = words.peek() else {
-        return Ok(None);
-    };
-    let Some(digits) = word.strip_prefix(name) else {
+// The number of a field, where the next word is that field's name, `=` and a number.
+fn field(words: &mut Words, name: &str) -> Result<Option<u32>, Fault> {
+    let digits = words
+        .peek()
+        .and_then(|word| word.strip_prefix(name.as_bytes()))
+        .and_then(|rest| rest.strip_prefix(b"="));
+    let Some(digits) = digits else {
         return Ok(None);
     };
     let n = number(digits).ok_or(Fault::Bad)?;
@@ -39,51 +36,22 @@ fn field(words: &mut Words, name: &[u8]) -> Result<Option<u32>, Fault> {
 }
 
 // A form's fields in their order, and what is made of them.
-fn fields<T, F: FnOnce(Option<u32>, Option<u32>, Option<u32>, Option<u32>) -> Result<T, BadField>>(
-    words: &mut Words,
-    names: [&[u8]; 4],
-    make: F,
-) -> Result<Result<T, BadField>, Fault>
-    requires { F.IsAlwaysCallable make }
-    ensures { IfOk result (λ made. (a : Option ℕ) × (b : Option ℕ) × (c : Option ℕ) × (d : Option ℕ) × F.post make a b c d made) }
+fn fields<V: Fielded>(words: &mut Words) -> Result<Result<V, BadField>, Fault>
+    ensures { IfOk result (λ made. (numbers : List (Option ℕ)) × Makes V.FIELDS V.values numbers made) }
 {
-    let [first, second, third, fourth] = names;
+    let [first, second, third, fourth] = V::names();
     let first = field(words, first)?;
     let second = field(words, second)?;
     let third = field(words, third)?;
     let fourth = field(words, fourth)?;
-    Ok(make(first, second, third, fourth))
-}
-
-// A cue's fields.
-fn cue(words: &mut Words) -> Result<Result<Said, BadField>, Fault> {
-    let cue = fields(
-        words,
-        [b"start=", b"projector=", b"level=", b"fade="],
-        Cue::new,
-    )?;
-    Ok(cue.map(|cue| Said::Item {
-        item: Item::Cue { cue },
-    }))
-}
-
-// A still's fields.
-fn still(words: &mut Words) -> Result<Result<Said, BadField>, Fault> {
-    let still = fields(
-        words,
-        [b"slide=", b"projector=", b"width=", b"hold="],
-        Still::new,
-    )?;
-    Ok(still.map(|still| Said::Item {
-        item: Item::Still { still },
-    }))
+    Ok(from_values([first, second, third, fourth]))
 }
 
 // A value to the line's end, or a form's field outside its range.
 fn value(words: &mut Words, heap: Global) -> Result<Result<Said, BadField>, Fault> {
     let value = match next_word(words)? {
-        b"cue" => cue(words)?,
-        b"still" => still(words)?,
+        b"cue" => fields::<Cue>(words)?.map(|cue| Said::Item { item: cue.into() }),
+        b"still" => fields::<Still>(words)?.map(|still| Said::Item { item: still.into() }),
         word => Ok(Said::Bytes {
             bytes: hex(word, heap)?,
         }),
@@ -93,7 +61,7 @@ fn value(words: &mut Words, heap: Global) -> Result<Result<Said, BadField>, Faul
 }
 
 // A call that gives a key a value under a slip, made of bytes or of a form's value.
-fn giving<B: FnOnce(usize, u32, Vec<u8>) -> Call<Item>, I: FnOnce(usize, u32, Item) -> Call<Item>>(
+fn giving<B: FnOnce(usize, u32, Vec<u8>) -> Call<Item, ItemKind>, I: FnOnce(usize, u32, Item) -> Call<Item, ItemKind>>(
     words: &mut Words,
     heap: Global,
     of_bytes: B,
@@ -141,18 +109,18 @@ fn change(words: &mut Words, heap: Global) -> Result<Step, Fault>
 }
 
 // A look, of bytes or under a form.
-fn look(words: &mut Words) -> Result<Call<Item>, Fault> {
+fn look(words: &mut Words) -> Result<Call<Item, ItemKind>, Fault> {
     let key = next_number(words)?;
     match words.next() {
         None => Ok(Call::Look { key }),
-        Some(b"cue") => Ok(Call::LookForm { key, kind: CUE }),
-        Some(b"still") => Ok(Call::LookForm { key, kind: STILL }),
+        Some(b"cue") => Ok(Call::LookForm { key, kind: ItemKind::Cue }),
+        Some(b"still") => Ok(Call::LookForm { key, kind: ItemKind::Still }),
         Some(_) => Err(Fault::Bad),
     }
 }
 
 // A call that has numbers only.
-fn plain(name: &[u8], words: &mut Words) -> Result<Call<Item>, Fault> {
+fn plain(name: &[u8], words: &mut Words) -> Result<Call<Item, ItemKind>, Fault> {
     match name {
         b"open" => Ok(Call::Open),
         b"begin" => Ok(Call::Begin),

@@ -3,7 +3,7 @@ ghost use Rattle.std.specs.Prelude.{◌≡◌};
 ghost use Rattle.script.specs.Ranges.{pages_of};
 
 use book::Call;
-use form::Item;
+use form::{Item, ItemKind};
 
 // A trial medium: its pages, the call in which it stops, 0 for never, and its pattern.
 #[derive(Clone, Copy, PartialEq, Eq, Debug)]
@@ -57,7 +57,7 @@ pub enum Step {
     // the calls from here on have a work page of so many bytes
     Work { bytes: usize },
     Lay { pages: usize },
-    Call { call: Call<Item> },
+    Call { call: Call<Item, ItemKind> },
     // a put or change under a form with a field outside its range: the slip, and the lowest bit of such a field
     BadField { slip: usize, bit: usize },
     Ask,
