@@ -54,7 +54,7 @@ pub enum Call<F, K> {
 }
 
 // What an accepted call answers.
-#[derive(Drop)]
+#[derive(Drop, PartialEq, Eq, Debug)]
 pub enum Done<F> {
     Opened { opened: Opened },
     // the place of the slip among those given, and its number
@@ -68,7 +68,7 @@ pub enum Done<F> {
 }
 
 // Why a call is not accepted.
-#[derive(Clone, Copy)]
+#[derive(Clone, Copy, PartialEq, Eq, Debug)]
 pub enum Denied {
     // the slip was never given, or is spent: no call was made
     NoSlip,

@@ -184,8 +184,8 @@ fn puts_and_changes(rt: HostRuntime) -> Result<(), Fail> {
 // The fields of a cue or a still, after its kind.
 fn fields_of(item: Item) -> (u8, [Option<u32>; 4]) {
     match item {
-        Item::Cue { cue } => (0, [cue.start, cue.projector, cue.level, cue.fade]),
-        Item::Still { still } => (1, [still.slide, still.projector, still.width, still.hold]),
+        Item::Cue(cue) => (0, [cue.start, cue.projector, cue.level, cue.fade]),
+        Item::Still(still) => (1, [still.slide, still.projector, still.width, still.hold]),
     }
 }
 
@@ -218,7 +218,7 @@ fn forms(rt: HostRuntime) -> Result<(), Fail> {
     else {
         return Err(Fail::new("look"));
     };
-    assert!(rt; key == 9 && kind == 1);
+    assert!(rt; key == 9 && kind.number() == 1);
     Ok(())
 }
 

@@ -3,7 +3,8 @@ use Rattle.std.specs.Prelude.{◌≡◌, ℕ, List, [], ◌∷◌, ◌++◌, rep
 use Rattle.medium.specs.declared.fault.MediumFault.{MediumFault}
 use Rattle.medium.specs.Meaning.{Meaning, Read}
 use Rattle.form.specs.declared.item.Item.{Item}
-use Rattle.form.specs.Items.{item_bytes, item_reads}
+use Rattle.form.specs.declared.item.ItemKind.{ItemKind}
+use Rattle.form.specs.Items.{item_bytes, item_reads_as}
 use Rattle.store.specs.declared.refusal.Refusal.{Refusal}
 use Rattle.store.specs.declared.store.Store.{Store}
 use Rattle.store.specs.Lays.{Lays}
@@ -24,8 +25,8 @@ with_bad text None = text
 with_bad text (Some n) = with_line text (codes "bad line " ++ decimal n)
 
 -- a call is made as the store promises, and its answer told
-abbrev pub CallMade : {M : Type 0} → (M → Meaning) → Call Item → Moment M → Moment M → List ℕ → List ℕ → Type 0
-CallMade meaning call a b s t = (r : Answer Item) × Makes meaning item_bytes item_reads call r a b × (t ≡ with_line s (answer_line b.work r))
+abbrev pub CallMade : {M : Type 0} → (M → Meaning) → Call Item ItemKind → Moment M → Moment M → List ℕ → List ℕ → Type 0
+CallMade meaning call a b s t = (r : Answer Item) × Makes meaning item_bytes item_reads_as call r a b × (t ≡ with_line s (answer_line b.work r))
 
 -- a file is laid, and what came of it told
 abbrev pub LayMade : {M : Type 0} → (M → Meaning) → ℕ → Moment M → Moment M → List ℕ → List ℕ → Type 0

@@ -20,13 +20,9 @@ impl Stage {
     ) -> (M, Result<(), AllocError>)
         ensures { OnOk result.1 (OverMade M.Medium.meaning steps.now self.old.slips self.new.slips (string_bytes self.old.out) (string_bytes self.new.out) medium result.0) }
     {
-        match Store::new(medium, self.heap) {
-            Ok(mut store) => {
-                let done = self.make_steps(&mut store, steps);
-                (store.into_medium(), done)
-            }
-            Err(medium) => (medium, Err(AllocError)),
-        }
+        let mut store = Store::new(medium);
+        let done = self.make_steps(&mut store, steps);
+        (store.into_medium(), done)
     }
 
     // The same through a window.
@@ -50,13 +46,8 @@ impl Stage {
     ) -> (M, Result<(), AllocError>)
         ensures { OnOk result.1 (HoldMade (OverMade (layered M.Medium.meaning) steps.now self.old.slips self.new.slips (string_bytes self.old.out) (string_bytes self.new.out)) medium result.0) }
     {
-        match Holding::new(medium, self.heap) {
-            Ok(hold) => {
-                let (hold, done) = self.over(hold, steps);
-                (hold.into_medium(), done)
-            }
-            Err(medium) => (medium, Err(AllocError)),
-        }
+        let (hold, done) = self.over(Holding::new(medium), steps);
+        (hold.into_medium(), done)
     }
 
     // The same through a window onto a holding layer.
@@ -68,13 +59,8 @@ impl Stage {
     ) -> (M, Result<(), AllocError>)
         ensures { OnOk result.1 (HoldMade (ThroughMade span (OverMade (seen (layered M.Medium.meaning)) steps.now self.old.slips self.new.slips (string_bytes self.old.out) (string_bytes self.new.out))) medium result.0) }
     {
-        match Holding::new(medium, self.heap) {
-            Ok(hold) => {
-                let (hold, done) = self.through(hold, span, steps);
-                (hold.into_medium(), done)
-            }
-            Err(medium) => (medium, Err(AllocError)),
-        }
+        let (hold, done) = self.through(Holding::new(medium), span, steps);
+        (hold.into_medium(), done)
     }
 
     // The same over a layer that holds back what goes through a window.

@@ -7,7 +7,7 @@ ghost use Rattle.stage.specs.Steps.{CallMade, LayMade, PageTold, StepMade, UseMa
 use super::stage::Stage;
 use super::tell::{Answer, Dump, Field, Laid};
 use book::{Call, run};
-use form::{Forms, Item};
+use form::{Forms, Item, ItemKind};
 use medium::Medium;
 use script::Step;
 use std::alloc::AllocError;
@@ -20,7 +20,7 @@ impl Stage {
         &mut self,
         store: &mut Store<M>,
         work: &mut [u8],
-        call: &Call<Item>,
+        call: &Call<Item, ItemKind>,
     ) -> Result<(), AllocError>
         ensures { OnOk result (CallMade M.Medium.meaning call.now (moment store.old self.old.slips work.old) (moment store.new self.new.slips work.new) (string_bytes self.old.out) (string_bytes self.new.out)) }
     {

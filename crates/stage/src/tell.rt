@@ -1,80 +1,13 @@
 // What is printed for each call.
-ghost use Rattle.std.specs.Prelude.{◌≡◌, Some};
-ghost use Rattle.stage.specs.Lines.{answer_line, bytes_line, denied_line, done_line, fault_line, field_line, item_line, laid_line, refusal_line, step_word};
+ghost use Rattle.std.specs.Prelude.{Some};
+ghost use Rattle.stage.specs.Lines.{answer_line, bytes_line, done_line, field_line, laid_line};
 
 use book::{Denied, Done};
 use form::Item;
 use medium::MediumFault;
 use std::fmt;
-use store::{Refusal, Step, value_at};
+use store::{Refusal, value_at};
 use text::Hex;
-
-// What the store was doing, in a word.
-fn step_word(step: Step) -> &'static str
-    ensures { result.now ≡ step_word step }
-{
-    match step {
-        Step::Read => "read",
-        Step::Write => "write",
-        Step::Settle => "settle",
-    }
-}
-
-// A refusal of the store, with its place where it has one.
-#[derive(Clone, Copy)]
-struct Refused(Refusal);
-
-impl fmt::Display for Refused {
-    ghost output = { λ x. Some (refusal_line x.0) };
-
-    fn fmt<W: fmt::Write>(&self, f: &mut fmt::Formatter<W>) -> fmt::Result {
-        let number = self.0.number();
-        match self.0 {
-            Refusal::Unsound { page } => write!(f, "refused {number} page {page}"),
-            Refusal::Medium { step, page, .. } => {
-                let doing = step_word(step);
-                write!(f, "refused {number} {doing} page {page}")
-            }
-            _ => write!(f, "refused {number}"),
-        }
-    }
-}
-
-// Why a call was not accepted.
-#[derive(Clone, Copy)]
-struct Why(Denied);
-
-impl fmt::Display for Why {
-    ghost output = { λ x. Some (denied_line x.0) };
-
-    fn fmt<W: fmt::Write>(&self, f: &mut fmt::Formatter<W>) -> fmt::Result {
-        match self.0 {
-            Denied::NoSlip => write!(f, "no slip"),
-            Denied::Store { refusal } => write!(f, "{}", Refused(refusal)),
-            Denied::Form { key, refusal } => write!(f, "{} key {key}", Refused(refusal)),
-            Denied::NotOfForm { key, page, bad } => {
-                let number = bad.number();
-                let byte = bad.at;
-                write!(f, "refused {number} key {key} page {page} byte {byte}")
-            }
-        }
-    }
-}
-
-// A value of a form.
-#[derive(Clone, Copy)]
-struct Shown(Item);
-
-impl fmt::Display for Shown {
-    ghost output = { λ x. Some (item_line x.0) };
-
-    fn fmt<W: fmt::Write>(&self, f: &mut fmt::Formatter<W>) -> fmt::Result {
-        match self.0 {
-            Item::Cue { cue } => write!(f, "ok {cue}"),
-            Item::Still { still } => write!(f, "ok {still}"),
-        }
-    }
-}
 
 // What an accepted call answered; a value that was looked at is in the work page.
 #[derive(Clone, Copy)]
@@ -106,7 +39,7 @@ impl fmt::Display for Accepted<'_> {
             Done::Key { key } => write!(f, "ok key {key}"),
             Done::Saved { counter, changes } => write!(f, "ok counter {counter} changes {changes}"),
             Done::Abandoned => write!(f, "ok"),
-            Done::Value { value } => write!(f, "{}", Shown(*value)),
+            Done::Value { value } => write!(f, "ok {value}"),
         }
     }
 }
@@ -125,7 +58,7 @@ impl fmt::Display for Answer<'_> {
         let work = self.work;
         match self.answer {
             Ok(done) => write!(f, "{}", Accepted { done, work }),
-            Err(denied) => write!(f, "{}", Why(*denied)),
+            Err(denied) => write!(f, "{denied}"),
         }
     }
 }
@@ -140,7 +73,7 @@ impl fmt::Display for Laid {
     fn fmt<W: fmt::Write>(&self, f: &mut fmt::Formatter<W>) -> fmt::Result {
         match self.0 {
             Ok(()) => write!(f, "ok"),
-            Err(refusal) => write!(f, "{}", Refused(refusal)),
+            Err(refusal) => write!(f, "{refusal}"),
         }
     }
 }
@@ -165,16 +98,6 @@ impl fmt::Display for Field {
     }
 }
 
-// Why a medium refused to read.
-fn fault_line(fault: MediumFault) -> &'static str
-    ensures { result.now ≡ fault_line fault }
-{
-    match fault {
-        MediumFault::Stopped => "refused stopped",
-        MediumFault::BadRun => "refused bad run",
-    }
-}
-
 // Bytes, or why a medium refused to read them.
 #[derive(Clone, Copy)]
 pub(super) struct Dump<'a> {
@@ -188,7 +111,7 @@ impl fmt::Display for Dump<'_> {
     fn fmt<W: fmt::Write>(&self, f: &mut fmt::Formatter<W>) -> fmt::Result {
         match self.answer {
             Ok(()) => write!(f, "{}", Hex(self.bytes)),
-            Err(fault) => f.write_str(fault_line(fault)),
+            Err(fault) => write!(f, "refused {fault}"),
         }
     }
 }

@@ -107,16 +107,12 @@ fn perform_at<M: Medium>(
 ) -> (M, Result<(), AllocError>)
     ensures { OnOk result.1 (ScriptMade script.now (string_bytes out.old) (string_bytes out.new)) }
 {
-    match Store::new(medium, heap) {
-        Ok(mut last) => {
-            let text = mem::replace(out, String::new(heap));
-            let mut stage = Stage::new(text, heap);
-            let done = stage.make_script(script);
-            *out = stage.end(&mut last);
-            (last.into_medium(), done)
-        }
-        Err(medium) => (medium, Err(AllocError)),
-    }
+    let mut last = Store::new(medium);
+    let text = mem::replace(out, String::new(heap));
+    let mut stage = Stage::new(text, heap);
+    let done = stage.make_script(script);
+    *out = stage.end(&mut last);
+    (last.into_medium(), done)
 }
 
 // Runs a script, and adds what it prints to the text.

@@ -3,8 +3,8 @@ use Rattle.stage.specs.Scripts.{ScriptMade}
 use Rattle.stage.proofs.Stepping.{made_map}
 use Rattle.stage.proofs.uses.perform_at.Goals as goal
 
-pub returns-in-Ok : goal.returns-in-Ok
-returns-in-Ok g c =
+pub returns : goal.returns
+returns g c =
     let script = c.args.script.now in
     let text = c.new-stage.ensures.text ∙ ap string_bytes c.replace-text.ensures.value in
     made_map c.make_script-done.result _ _
