@@ -1,5 +1,5 @@
 -- Bytes, two digits at a time.
-use Rattle.std.proofs.Common.{◌≡◌, ℕ, zero, suc, ◌+◌, ◌*◌, ◌/◌, ◌%◌, ◌<◌, ◌≤◌, true, false, eqb, List, [], ◌∷◌, ◌++◌, length, get_or, drop, is_err, Ok, Err, Result, Some, None, Option, sym, refl, ap, ◌∙◌, true≢false, append_assoc, arith}
+use Rattle.std.proofs.Common.{◌≡◌, ℕ, zero, suc, ◌+◌, ◌*◌, ◌/◌, ◌%◌, ◌<◌, ◌≤◌, true, false, eqb, List, [], ◌∷◌, ◌++◌, length, get_or, drop, is_err, Ok, Err, Result, Some, None, Option, sym, refl, ap, ◌∙◌, true≢false, arith}
 use Rattle.std.proofs.lemmas.List.{at_drop_more, drop_all, append-nil}
 use Rattle.std.proofs.lemmas.Bool.Decides.{nat_tests}
 use Rattle.std.specs.Simd.{first_chunks}
@@ -12,10 +12,6 @@ use Rattle.script.specs.Spelled.{on_digit, hex_byte, behind, hex_bytes}
 abbrev pub prefixed : List ℕ → Option (List ℕ) → Option (List ℕ)
 prefixed acc None = None
 prefixed acc (Some bs) = Some (acc ++ bs)
-
-moved : (acc : List ℕ) (x : ℕ) (o : Option (List ℕ)) → prefixed acc (behind x o) ≡ prefixed (acc ++ x ∷ []) o
-moved acc x None = refl
-moved acc x (Some bs) = ap Some (sym (append_assoc acc (x ∷ []) bs))
 
 -- the bytes of pairs of digits
 abbrev pub of_pairs : List (List ℕ) → Option (List ℕ)
@@ -58,14 +54,6 @@ next_pair ps i p o l is e =
     at_drop_more of_pairs ps i p l
     ∙ ap (λ q. on_digit (hex_byte (get_or q 0 0) (get_or q 1 0)) (λ x. behind x (of_pairs (drop (i + 1) ps)))) (sym is)
     ∙ ap (λ q. on_digit q (λ x. behind x (of_pairs (drop (i + 1) ps)))) (sym e)
-
-pub pair_more : (ps : List (List ℕ)) (acc new : List ℕ) (i x : ℕ) (p : List ℕ) → i < length ps → p ≡ get_or ps i p → Some x ≡ hex_byte (get_or p 0 0) (get_or p 1 0) → new ≡ acc ++ x ∷ []
-    → prefixed acc (of_pairs (drop i ps)) ≡ of_pairs ps → prefixed new (of_pairs (drop (i + 1) ps)) ≡ of_pairs ps
-pair_more ps acc new i x p l is e f inv =
-    ap (λ l. prefixed l (of_pairs (drop (i + 1) ps))) f
-    ∙ sym (moved acc x (of_pairs (drop (i + 1) ps)))
-    ∙ sym (ap (prefixed acc) (next_pair ps i p (Some x) l is e))
-    ∙ inv
 
 pub pair_none : (w : List ℕ) (ps : List (List ℕ)) (acc : List ℕ) (n i : ℕ) (p : List ℕ) → ps ≡ first_chunks 2 (length w / 2) w → n ≡ length w % 2 → true ≡ eqb n 0
     → i < length ps → p ≡ get_or ps i p → None ≡ hex_byte (get_or p 0 0) (get_or p 1 0)

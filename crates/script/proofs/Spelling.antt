@@ -2,16 +2,13 @@
 use Rattle.std.proofs.Common.{◌≡◌, ℕ, ◌+◌, ◌*◌, ◌^◌, ◌<◌, ◌≤◌, false, eqb, List, [], ◌∷◌, length, get_or, drop, Some, None, Option, sym, refl, ap, ◌∙◌, true≢false, arith}
 use Rattle.std.proofs.Math.Nat.{le-mul_of_pos_right}
 use Rattle.std.proofs.lemmas.Bool.Decides.{nat_tests}
-use Rattle.std.proofs.lemmas.List.{at_drop_more, at_drop_all}
+use Rattle.std.proofs.lemmas.List.{at_drop_more}
 use Rattle.script.specs.Digits.{decimal_digit, hex_digit, digit_in}
 use Rattle.script.specs.Spelled.{on_digit, below, more, spelled, number_of, pattern_of}
 
 -- a number that is too great stays so
 over : (limit n : ℕ) → limit ≤ n → below limit (Some n) ≡ None
 over limit n h = grind (arith, nat_tests)
-
-under : (limit n : ℕ) → n < limit → below limit (Some n) ≡ Some n
-under limit n h = grind (arith, nat_tests)
 
 -- with each digit the number grows
 abbrev pub Grows : ℕ → Type 0
@@ -32,47 +29,15 @@ no_more : (digit : ℕ → Option ℕ) (base limit n : ℕ) (o : Option ℕ) (bs
 no_more digit base limit n None bs up e = refl
 no_more digit base limit n (Some d) bs up e = too_great digit base limit (n * base + d) bs up (grind (arith, nat_tests, e))
 
-one_more : (digit : ℕ → Option ℕ) (base limit n m : ℕ) (o : Option ℕ) (bs : List ℕ) → Some m ≡ more base limit n o
-    → below limit (on_digit o (λ d. spelled digit base (n * base + d) bs)) ≡ below limit (spelled digit base m bs)
-one_more digit base limit n m None bs e = grind (arith, nat_tests, e)
-one_more digit base limit n m (Some d) bs e =
-    let same : n * base + d ≡ m = grind (arith, nat_tests, e) in
-    ap (λ v. below limit (spelled digit base v bs)) same
-
-more_under : (base limit n m : ℕ) (o : Option ℕ) → Some m ≡ more base limit n o → m < limit
-more_under base limit n m None e = grind (arith, nat_tests, e)
-more_under base limit n m (Some d) e = grind (arith, nat_tests, e)
-
-pub digit_more : (digit : ℕ → Option ℕ) (base limit n m : ℕ) (bs : List ℕ) (i : ℕ) → i < length bs → Some m ≡ more base limit n (digit (get_or bs i 0))
-    → below limit (spelled digit base n (drop i bs)) ≡ below limit (spelled digit base m (drop (i + 1) bs))
-digit_more digit base limit n m bs i h e =
-    at_drop_more (λ l. below limit (spelled digit base n l)) bs i 0 h ∙ one_more digit base limit n m (digit (get_or bs i 0)) (drop (i + 1) bs) e
-
 pub digit_none : (digit : ℕ → Option ℕ) (base limit n : ℕ) (bs : List ℕ) (i : ℕ) → Grows base → i < length bs → None ≡ more base limit n (digit (get_or bs i 0))
     → below limit (spelled digit base n (drop i bs)) ≡ None
 digit_none digit base limit n bs i up h e =
     at_drop_more (λ l. below limit (spelled digit base n l)) bs i 0 h ∙ no_more digit base limit n (digit (get_or bs i 0)) (drop (i + 1) bs) up e
 
-pub digits_all : (digit : ℕ → Option ℕ) (base limit n : ℕ) (bs : List ℕ) (i : ℕ) → length bs ≤ i → n < limit
-    → below limit (spelled digit base n (drop i bs)) ≡ Some n
-digits_all digit base limit n bs i h f = at_drop_all (λ l. below limit (spelled digit base n l)) bs i h ∙ under limit n f
-
--- one number from digit to digit
-pub number_more : (base : ℕ) (bs : List ℕ) (i n m : ℕ) → i < length bs → Some m ≡ more base (2 ^ 64) n (digit_in base (get_or bs i 0))
-    → below (2 ^ 64) (spelled (digit_in base) base n (drop i bs)) ≡ below (2 ^ 64) (spelled (digit_in base) base 0 bs)
-    → (below (2 ^ 64) (spelled (digit_in base) base m (drop (i + 1) bs)) ≡ below (2 ^ 64) (spelled (digit_in base) base 0 bs)) × (m < 2 ^ 64)
-number_more base bs i n m h e inv =
-    (sym (digit_more (digit_in base) base (2 ^ 64) n m bs i h e) ∙ inv, more_under base (2 ^ 64) n m (digit_in base (get_or bs i 0)) e)
-
 pub number_none : (base : ℕ) (bs : List ℕ) (i n : ℕ) → 2 ≤ base → i < length bs → None ≡ more base (2 ^ 64) n (digit_in base (get_or bs i 0))
     → below (2 ^ 64) (spelled (digit_in base) base n (drop i bs)) ≡ below (2 ^ 64) (spelled (digit_in base) base 0 bs)
     → None ≡ below (2 ^ 64) (spelled (digit_in base) base 0 bs)
 number_none base bs i n two h e inv = sym (digit_none (digit_in base) base (2 ^ 64) n bs i (grows base two) h e) ∙ inv
-
-pub number_all : (base : ℕ) (bs : List ℕ) (i n : ℕ) → length bs ≤ i → n < 2 ^ 64
-    → below (2 ^ 64) (spelled (digit_in base) base n (drop i bs)) ≡ below (2 ^ 64) (spelled (digit_in base) base 0 bs)
-    → Some n ≡ below (2 ^ 64) (spelled (digit_in base) base 0 bs)
-number_all base bs i n h f inv = sym (digits_all (digit_in base) base (2 ^ 64) n bs i h f) ∙ inv
 
 -- the digits of base 10 and of base 16
 decimal_same : (b : ℕ) → decimal_digit b ≡ digit_in 10 b
@@ -81,10 +46,6 @@ decimal_same b = grind (arith, nat_tests)
 hex_same : (b : ℕ) → hex_digit b ≡ digit_in 16 b
 hex_same b = grind (arith, nat_tests)
 
-narrow_none : (o : Option ℕ) → None ≡ below (2 ^ 64) o → None ≡ below (2 ^ 32) o
-narrow_none None e = refl
-narrow_none (Some n) e = grind (arith, nat_tests, e)
-
 narrow_some : (o : Option ℕ) (n : ℕ) → Some n ≡ below (2 ^ 64) o → below (2 ^ 32) o ≡ below (2 ^ 32) (Some n)
 narrow_some None n e = absurd (cc)
 narrow_some (Some m) n e = let same : n ≡ m = grind (arith, nat_tests, e) in ap (λ k. below (2 ^ 32) (Some k)) (sym same)
@@ -92,9 +53,6 @@ narrow_some (Some m) n e = let same : n ≡ m = grind (arith, nat_tests, e) in a
 decimal : (bs : List ℕ) → false ≡ eqb (length bs) 0 → number_of bs ≡ below (2 ^ 32) (spelled (digit_in 10) 10 0 bs)
 decimal [] e = absurd (true≢false (sym e))
 decimal (b ∷ bs) e = λ j. below (2 ^ 32) (spelled (λ d. decimal_same d j) 10 0 (b ∷ bs))
-
-pub decimal_none : (bs : List ℕ) → false ≡ eqb (length bs) 0 → None ≡ below (2 ^ 64) (spelled (digit_in 10) 10 0 bs) → None ≡ number_of bs
-decimal_none bs some e = narrow_none (spelled (digit_in 10) 10 0 bs) e ∙ sym (decimal bs some)
 
 pub decimal_some : (bs : List ℕ) (n : ℕ) → false ≡ eqb (length bs) 0 → Some n ≡ below (2 ^ 64) (spelled (digit_in 10) 10 0 bs) → number_of bs ≡ below (2 ^ 32) (Some n)
 decimal_some bs n some e = decimal bs some ∙ narrow_some (spelled (digit_in 10) 10 0 bs) n e
