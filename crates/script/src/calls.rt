@@ -61,12 +61,10 @@ fn value(words: &mut Words, heap: Global) -> Result<Result<Said, BadField>, Faul
 }
 
 // A call that gives a key a value under a slip, made of bytes or of a form's value.
-fn giving<B: FnOnce(usize, u32, Vec<u8>) -> Call<Item, ItemKind>, I: FnOnce(usize, u32, Item) -> Call<Item, ItemKind>>(
-    words: &mut Words,
-    heap: Global,
-    of_bytes: B,
-    of_item: I,
-) -> Result<Step, Fault>
+fn giving<
+    B: FnOnce(usize, u32, Vec<u8>) -> Call<Item, ItemKind>,
+    I: FnOnce(usize, u32, Item) -> Call<Item, ItemKind>,
+>(words: &mut Words, heap: Global, of_bytes: B, of_item: I) -> Result<Step, Fault>
     requires bytes { B.IsAlwaysCallable of_bytes }
     requires item { I.IsAlwaysCallable of_item }
     ensures { IfOk result (λ s. work_of s ≤ 4096) }
@@ -113,8 +111,14 @@ fn look(words: &mut Words) -> Result<Call<Item, ItemKind>, Fault> {
     let key = next_number(words)?;
     match words.next() {
         None => Ok(Call::Look { key }),
-        Some(b"cue") => Ok(Call::LookForm { key, kind: ItemKind::Cue }),
-        Some(b"still") => Ok(Call::LookForm { key, kind: ItemKind::Still }),
+        Some(b"cue") => Ok(Call::LookForm {
+            key,
+            kind: ItemKind::Cue,
+        }),
+        Some(b"still") => Ok(Call::LookForm {
+            key,
+            kind: ItemKind::Still,
+        }),
         Some(_) => Err(Fault::Bad),
     }
 }
