@@ -21,7 +21,8 @@ impl<'a, M: Medium> Desk<'a, M> {
             .store
             .look(work, key)
             .map_err(|refusal| Denied::Form { key, refusal })?;
-        let page = self.store.page_of(key).unwrap_or(0);
+        let page = self.store.page_of(key).unwrap();
+        // no `map_err`: the proof takes the bad byte from the match
         match F::read(of, value_at(work, place)) {
             Ok(value) => Ok(Done::Value { value }),
             Err(bad) => Err(Denied::NotOfForm { key, page, bad }),

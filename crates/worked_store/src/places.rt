@@ -53,9 +53,7 @@ fn fill<M: Medium>(store: &mut Store<M>) -> Result<Fifth, Refusal> {
 
 fn full_page<M: Medium>(rt: &impl Abort, store: &mut Store<M>) -> Result<(), Fail> {
     assert!(rt; lay_and_open(store));
-    let Ok(fifth) = fill(store) else {
-        return Err(Fail::new("not filled"));
-    };
+    let fifth = fill(store)?;
     assert_eq!(rt; fifth.put, Some(15));
     // a record of the same edit makes room for its change
     assert_eq!(rt; fifth.change, None);

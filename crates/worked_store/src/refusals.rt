@@ -132,9 +132,8 @@ fn two_edits<M: Medium, N: Medium>(
     store: &mut Store<M>,
     other: &mut Store<N>,
 ) -> Result<(), Fail> {
-    let Ok(slip) = store.begin() else {
-        return Err(Fail::new("no edit"));
-    };
+    let slip = store.begin()?;
+    // no `?`: the slip is to be spent before the test fails
     let Ok(foreign) = other.begin() else {
         let _ = store.abandon(slip);
         return Err(Fail::new("no edit"));

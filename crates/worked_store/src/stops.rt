@@ -79,12 +79,8 @@ fn edit_of<M: Medium>(store: &Store<M>, key: u32, length: usize) -> Result<Optio
 // What is left opens, under the counter of the edit that both keys are of: the last that was saved, or the next.
 fn whole<M: Medium>(rt: &impl Abort, store: &mut Store<M>, saved: u8) -> Result<(), Fail> {
     let mut work = [0; 1024];
-    let Ok(opened) = store.open(&mut work) else {
-        return Err(Fail::new("not opened"));
-    };
-    let Some(edit) = edit_of(store, 7, 8)? else {
-        return Err(Fail::new("key 7 is not there"));
-    };
+    let opened = store.open(&mut work)?;
+    let edit = edit_of(store, 7, 8)?.ok_or("key 7 is not there")?;
     assert!(rt; edit == saved || (saved < 2 && edit == saved + 1));
     // key 3 came with the first edit
     let three = if edit == 0 { None } else { Some(edit) };
