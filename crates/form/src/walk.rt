@@ -127,6 +127,7 @@ pub(super) fn read_fields<const N: usize>(
     let mut values = [None; N];
     let mut left = value[0];
     let mut at = 1;
+    // by bit: of elements that are lent a proof knows nothing once they are back
     for (bit, field) in fields.iter().enumerate() {
         let (number, end) = read_field(value, *field, left % 2 == 1, at)?;
         values[bit] = number;

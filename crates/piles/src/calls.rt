@@ -8,7 +8,7 @@ use std::{fmt, io};
 use text::Hex;
 
 // A call: a run of words that is read, or filled with a byte, or a settle.
-#[derive(Clone, Copy)]
+#[derive(Clone, Copy, PartialEq, Eq, Debug)]
 pub enum Call {
     Read {
         page: usize,

@@ -6,7 +6,7 @@ use super::touched::Touched;
 use layout::FirstPage;
 
 // A store is shut, or opened with what the first page told, or opened with an edit.
-#[derive(Clone, Copy)]
+#[derive(Clone, Copy, PartialEq, Eq, Debug)]
 pub enum State {
     Shut,
     Open { first: FirstPage },
