@@ -27,19 +27,19 @@ MemoryMade steps x y s t b = (m : Memory) × (n : Memory) × (m.bytes.now ≡ b)
 abbrev pub trial_meaning : Trial → Meaning
 trial_meaning k = flat k.stopped k.bytes.now
 
--- steps on a trial medium under layers
-abbrev pub LayersMade : Layers → List Step → Slips → Slips → List ℕ → List ℕ → Trial → Trial → Type 0
-LayersMade Bare steps x y s t m n = OverMade trial_meaning steps x y s t m n
-LayersMade (Window span) steps x y s t m n = ThroughMade span (OverMade (seen trial_meaning) steps x y s t) m n
-LayersMade Hold steps x y s t m n = HoldMade (OverMade (layered trial_meaning) steps x y s t) m n
-LayersMade (WindowHold span) steps x y s t m n = HoldMade (ThroughMade span (OverMade (seen (layered trial_meaning)) steps x y s t)) m n
-LayersMade (HoldWindow span) steps x y s t m n = ThroughMade span (HoldMade (OverMade (layered (seen trial_meaning)) steps x y s t)) m n
+-- steps on a medium under layers
+abbrev pub LayersMade : {M : Type 0} → (M → Meaning) → Layers → List Step → Slips → Slips → List ℕ → List ℕ → M → M → Type 0
+LayersMade meaning Bare steps x y s t m n = OverMade meaning steps x y s t m n
+LayersMade meaning (Window span) steps x y s t m n = ThroughMade span (OverMade (seen meaning) steps x y s t) m n
+LayersMade meaning Hold steps x y s t m n = HoldMade (OverMade (layered meaning) steps x y s t) m n
+LayersMade meaning (WindowHold span) steps x y s t m n = HoldMade (ThroughMade span (OverMade (seen (layered meaning)) steps x y s t)) m n
+LayersMade meaning (HoldWindow span) steps x y s t m n = ThroughMade span (HoldMade (OverMade (layered (seen meaning)) steps x y s t)) m n
 
 -- steps on a trial medium over bytes, new as the card says
 abbrev pub TrialMade : Card → Layers → List Step → Slips → Slips → List ℕ → List ℕ → List ℕ → Type 0
 TrialMade card under steps x y s t b =
     (m : Trial) × (n : Trial) × (m.bytes.now ≡ b) × (m.left ≡ card.stop) × (m.pattern ≡ card.pattern) × (m.stopped ≡ false)
-    × LayersMade under steps x y s t m n
+    × LayersMade trial_meaning under steps x y s t m n
 
 -- steps on the medium that is named, over bytes
 abbrev pub NamedMade : Named → List Step → Slips → Slips → List ℕ → List ℕ → List ℕ → Type 0

@@ -3,11 +3,12 @@ ghost use Rattle.std.specs.Prelude.{string_bytes, OnOk};
 ghost use Rattle.layer.specs.Holds.{layered};
 ghost use Rattle.layer.specs.Windows.{seen};
 ghost use Rattle.stage.specs.Piles.{HoldMade, OverMade, ThroughMade};
+ghost use Rattle.stage.specs.Scripts.{LayersMade};
 
 use super::stage::Stage;
-use layer::{Holding, Window};
+use layer::{holding_back, through};
 use medium::Medium;
-use script::{Span, Step};
+use script::{Layers, Step};
 use std::alloc::AllocError;
 use store::Store;
 
@@ -25,54 +26,75 @@ impl Stage {
         (store.into_medium(), done)
     }
 
-    // The same through a window.
-    pub(super) fn through<M: Medium>(
+    // Makes steps on a medium under layers, and gives it back. What a holding layer still holds at the end is lost.
+    pub(super) fn under_layers<M: Medium>(
         &mut self,
         medium: M,
-        span: Span,
+        under: Layers,
         steps: &[Step],
     ) -> (M, Result<(), AllocError>)
-        ensures { OnOk result.1 (ThroughMade span (OverMade (seen M.Medium.meaning) steps.now self.old.slips self.new.slips (string_bytes self.old.out) (string_bytes self.new.out)) medium result.0) }
+        ensures { OnOk result.1 (LayersMade M.Medium.meaning under steps.now self.old.slips self.new.slips (string_bytes self.old.out) (string_bytes self.new.out) medium result.0) }
     {
-        let (window, done) = self.over(Window::new(medium, span.first, span.count), steps);
-        (window.into_medium(), done)
-    }
-
-    // The same over a holding layer. What it still holds at the end is lost.
-    pub(super) fn holding<M: Medium>(
-        &mut self,
-        medium: M,
-        steps: &[Step],
-    ) -> (M, Result<(), AllocError>)
-        ensures { OnOk result.1 (HoldMade (OverMade (layered M.Medium.meaning) steps.now self.old.slips self.new.slips (string_bytes self.old.out) (string_bytes self.new.out)) medium result.0) }
-    {
-        let (hold, done) = self.over(Holding::new(medium), steps);
-        (hold.into_medium(), done)
-    }
-
-    // The same through a window onto a holding layer.
-    pub(super) fn through_holding<M: Medium>(
-        &mut self,
-        medium: M,
-        span: Span,
-        steps: &[Step],
-    ) -> (M, Result<(), AllocError>)
-        ensures { OnOk result.1 (HoldMade (ThroughMade span (OverMade (seen (layered M.Medium.meaning)) steps.now self.old.slips self.new.slips (string_bytes self.old.out) (string_bytes self.new.out))) medium result.0) }
-    {
-        let (hold, done) = self.through(Holding::new(medium), span, steps);
-        (hold.into_medium(), done)
-    }
-
-    // The same over a layer that holds back what goes through a window.
-    pub(super) fn holding_through<M: Medium>(
-        &mut self,
-        medium: M,
-        span: Span,
-        steps: &[Step],
-    ) -> (M, Result<(), AllocError>)
-        ensures { OnOk result.1 (ThroughMade span (HoldMade (OverMade (layered (seen M.Medium.meaning)) steps.now self.old.slips self.new.slips (string_bytes self.old.out) (string_bytes self.new.out))) medium result.0) }
-    {
-        let (window, done) = self.holding(Window::new(medium, span.first, span.count), steps);
-        (window.into_medium(), done)
+        match under {
+            Layers::Bare => self.over(medium, steps),
+            Layers::Window { span } => {
+                through(
+                    medium,
+                    span.first,
+                    span.count,
+                    self,
+                    |window, stage|
+                        ensures { OnOk result.1 (OverMade (seen M.Medium.meaning) steps.entry.now stage.old.slips stage.new.slips (string_bytes stage.old.out) (string_bytes stage.new.out) window result.0) }
+                    { stage.over(window, steps) },
+                )
+            }
+            Layers::Hold => {
+                holding_back(
+                    medium,
+                    self,
+                    |hold, stage|
+                        ensures { OnOk result.1 (OverMade (layered M.Medium.meaning) steps.entry.now stage.old.slips stage.new.slips (string_bytes stage.old.out) (string_bytes stage.new.out) hold result.0) }
+                    { stage.over(hold, steps) },
+                )
+            }
+            Layers::WindowHold { span } => {
+                holding_back(
+                    medium,
+                    self,
+                    |hold, stage|
+                        ensures { OnOk result.1 (ThroughMade (record { first = span.first; count = span.count }) (OverMade (seen (layered M.Medium.meaning)) steps.entry.now stage.old.slips stage.new.slips (string_bytes stage.old.out) (string_bytes stage.new.out)) hold result.0) }
+                    {
+                        through(
+                            hold,
+                            span.first,
+                            span.count,
+                            stage,
+                            |window, stage|
+                                ensures { OnOk result.1 (OverMade (seen (layered M.Medium.meaning)) steps.entry.now stage.old.slips stage.new.slips (string_bytes stage.old.out) (string_bytes stage.new.out) window result.0) }
+                            { stage.over(window, steps) },
+                        )
+                    },
+                )
+            }
+            Layers::HoldWindow { span } => {
+                through(
+                    medium,
+                    span.first,
+                    span.count,
+                    self,
+                    |window, stage|
+                        ensures { OnOk result.1 (HoldMade (OverMade (layered (seen M.Medium.meaning)) steps.entry.now stage.old.slips stage.new.slips (string_bytes stage.old.out) (string_bytes stage.new.out)) window result.0) }
+                    {
+                        holding_back(
+                            window,
+                            stage,
+                            |hold, stage|
+                                ensures { OnOk result.1 (OverMade (layered (seen M.Medium.meaning)) steps.entry.now stage.old.slips stage.new.slips (string_bytes stage.old.out) (string_bytes stage.new.out) hold result.0) }
+                            { stage.over(hold, steps) },
+                        )
+                    },
+                )
+            }
+        }
     }
 }

@@ -20,24 +20,6 @@ impl Stage {
         done
     }
 
-    // Makes steps on a trial medium under layers, and gives it back.
-    fn under_layers<'a>(
-        &mut self,
-        trial: Trial<'a>,
-        under: Layers,
-        steps: &[Step],
-    ) -> (Trial<'a>, Result<(), AllocError>)
-        ensures { OnOk result.1 (LayersMade under steps.now self.old.slips self.new.slips (string_bytes self.old.out) (string_bytes self.new.out) trial.entry result.0) }
-    {
-        match under {
-            Layers::Bare => self.over(trial, steps),
-            Layers::Window { span } => self.through(trial, span, steps),
-            Layers::Hold => self.holding(trial, steps),
-            Layers::WindowHold { span } => self.through_holding(trial, span, steps),
-            Layers::HoldWindow { span } => self.holding_through(trial, span, steps),
-        }
-    }
-
     // Makes steps on a trial medium over bytes, under the layers that are named.
     fn on_trial(
         &mut self,

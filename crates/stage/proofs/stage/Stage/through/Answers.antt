@@ -1,6 +1,0 @@
-use Rattle.std.proofs.Common.{rules}
-use Rattle.stage.proofs.Stepping.{made_map}
-use Rattle.stage.proofs.stage.Stage.through.Goals as goal
-
-pub returns : goal.returns
-returns g c = made_map c.over-window.result.1 _ _ (λ _ p. (_, _, search rules, search rules, search rules, search rules, p)) c.over-window.ensures
