@@ -15,7 +15,7 @@ use std::alloc::Global;
 const MOST: u32 = 4096;
 
 // A record's value as a line gives it: bytes, or a form's value.
-#[derive(Drop)]
+#[derive(Drop, PartialEq, Eq, Debug)]
 enum Said {
     Bytes { bytes: Vec<u8> },
     Item { item: Item },

@@ -12,7 +12,7 @@ use super::words::{Words, check_end, next_number, next_word};
 use std::alloc::Global;
 
 // What a line says.
-#[derive(Drop)]
+#[derive(Drop, PartialEq, Eq, Debug)]
 pub enum Line {
     Begin { again: bool, named: Named },
     Step { step: Step },

@@ -52,7 +52,7 @@ impl Named {
 }
 
 // One line of a use.
-#[derive(Drop)]
+#[derive(Drop, PartialEq, Eq, Debug)]
 pub enum Step {
     // the calls from here on have a work page of so many bytes
     Work { bytes: usize },
@@ -74,7 +74,7 @@ pub struct Poke {
 }
 
 // A use: over fresh bytes, or again over those left by the one before; its lines, and the pokes after it.
-#[derive(Drop)]
+#[derive(Drop, PartialEq, Eq, Debug)]
 pub struct Use {
     pub again: bool,
     pub named: Named,
@@ -83,7 +83,7 @@ pub struct Use {
 }
 
 // The uses of a script, up to the first line that is not of the grammar, whose number is told, counted from 1.
-#[derive(Drop)]
+#[derive(Drop, PartialEq, Eq, Debug)]
 pub struct Script {
     pub uses: Vec<Use>,
     pub bad: Option<usize>,
