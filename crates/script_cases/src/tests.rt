@@ -1,7 +1,7 @@
 // What scripts are read as.
 use book::Call;
-use form::Item;
-use script::{Card, Layers, Named, Script, Span, Step, Use, parse};
+use form::{Cue, Item, ItemKind, Still};
+use script::{Card, Layers, Named, Poke, Script, Span, Step, Use, parse};
 use std::process::Abort;
 use std::test::*;
 
@@ -157,98 +157,101 @@ fn the_first_again_is_a_use(rt: HostRuntime) -> Result<(), Fail> {
 
 #[test]
 fn puts_and_changes(rt: HostRuntime) -> Result<(), Fail> {
-    let Step::Call {
-        call: Call::Put { slip, key, value },
-    } = step_of(&rt, b"put 3 4294967295 0aFF")?
-    else {
-        return Err(Fail::new("put"));
-    };
-    assert!(rt; slip == 3 && key == 4_294_967_295 && value.as_slice() == b"\x0a\xff".as_slice());
-    let Step::Call {
-        call: Call::Change { slip, key, value },
-    } = step_of(&rt, b"change 0 007 -")?
-    else {
-        return Err(Fail::new("change"));
-    };
-    assert!(rt; slip == 0 && key == 7 && value.is_empty());
-    let Step::Call {
-        call: Call::Remove { slip, key },
-    } = step_of(&rt, b"remove 1 2")?
-    else {
-        return Err(Fail::new("remove"));
-    };
-    assert!(rt; slip == 1 && key == 2);
+    assert_eq!(rt;
+        step_of(&rt, b"put 3 4294967295 0aFF")?,
+        Step::Call {
+            call: Call::Put {
+                slip: 3,
+                key: 4_294_967_295,
+                value: vec![in rt.alloc(); 0x0a, 0xff]?,
+            },
+        }
+    );
+    assert_eq!(rt;
+        step_of(&rt, b"change 0 007 -")?,
+        Step::Call {
+            call: Call::Change {
+                slip: 0,
+                key: 7,
+                value: Vec::new(rt.alloc()),
+            },
+        }
+    );
+    assert_eq!(rt;
+        step_of(&rt, b"remove 1 2")?,
+        Step::Call {
+            call: Call::Remove { slip: 1, key: 2 },
+        }
+    );
     Ok(())
-}
-
-// The fields of a cue or a still, after its kind.
-fn fields_of(item: Item) -> (u8, [Option<u32>; 4]) {
-    match item {
-        Item::Cue(cue) => (0, [cue.start, cue.projector, cue.level, cue.fade]),
-        Item::Still(still) => (1, [still.slide, still.projector, still.width, still.hold]),
-    }
 }
 
 #[test]
 fn forms(rt: HostRuntime) -> Result<(), Fail> {
-    let Step::Call {
-        call: Call::PutForm { slip, key, value },
-    } = step_of(&rt, b"put 1 2 cue start=600 level=80")?
-    else {
-        return Err(Fail::new("cue"));
-    };
-    let (kind, fields) = fields_of(value);
-    assert!(rt; slip == 1 && key == 2 && kind == 0 && fields == [Some(600), None, Some(80), None]);
-    let Step::Call {
-        call: Call::ChangeForm { slip, key, value },
-    } = step_of(
-        &rt,
-        b"change 3 4 still slide=12 projector=1 width=3 hold=45",
-    )?
-    else {
-        return Err(Fail::new("still"));
-    };
-    let (kind, fields) = fields_of(value);
-    assert!(rt;
-        slip == 3 && key == 4 && kind == 1 && fields == [Some(12), Some(1), Some(3), Some(45)]
+    assert_eq!(rt;
+        step_of(&rt, b"put 1 2 cue start=600 level=80")?,
+        Step::Call {
+            call: Call::PutForm {
+                slip: 1,
+                key: 2,
+                value: Item::Cue(Cue {
+                    start: Some(600),
+                    projector: None,
+                    level: Some(80),
+                    fade: None,
+                }),
+            },
+        }
     );
-    let Step::Call {
-        call: Call::LookForm { key, kind },
-    } = step_of(&rt, b"look 9 still")?
-    else {
-        return Err(Fail::new("look"));
-    };
-    assert!(rt; key == 9 && kind.number() == 1);
+    assert_eq!(rt;
+        step_of(
+            &rt,
+            b"change 3 4 still slide=12 projector=1 width=3 hold=45"
+        )?,
+        Step::Call {
+            call: Call::ChangeForm {
+                slip: 3,
+                key: 4,
+                value: Item::Still(Still {
+                    slide: Some(12),
+                    projector: Some(1),
+                    width: Some(3),
+                    hold: Some(45),
+                }),
+            },
+        }
+    );
+    assert_eq!(rt;
+        step_of(&rt, b"look 9 still")?,
+        Step::Call {
+            call: Call::LookForm {
+                key: 9,
+                kind: ItemKind::Still,
+            },
+        }
+    );
+    assert!(rt; ItemKind::Cue.number() == 0 && ItemKind::Still.number() == 1);
     Ok(())
 }
 
 #[test]
 fn fields_out_of_range(rt: HostRuntime) -> Result<(), Fail> {
-    let Step::BadField { slip, bit } = step_of(&rt, b"put 5 2 cue projector=65 level=101")? else {
-        return Err(Fail::new("cue"));
-    };
-    assert!(rt; slip == 5 && bit == 1);
-    let Step::BadField { slip, bit } = step_of(&rt, b"change 6 2 still hold=6001")? else {
-        return Err(Fail::new("still"));
-    };
-    assert!(rt; slip == 6 && bit == 3);
+    assert_eq!(rt;
+        step_of(&rt, b"put 5 2 cue projector=65 level=101")?,
+        Step::BadField { slip: 5, bit: 1 }
+    );
+    assert_eq!(rt;
+        step_of(&rt, b"change 6 2 still hold=6001")?,
+        Step::BadField { slip: 6, bit: 3 }
+    );
     Ok(())
 }
 
 #[test]
 fn other_lines(rt: HostRuntime) -> Result<(), Fail> {
-    let Step::Work { bytes } = step_of(&rt, b"work 4096")? else {
-        return Err(Fail::new("work"));
-    };
-    assert_eq!(rt; bytes, 4096);
-    let Step::Lay { pages } = step_of(&rt, b"lay 9999")? else {
-        return Err(Fail::new("lay"));
-    };
-    assert_eq!(rt; pages, 9999);
-    let Step::DumpPage { page } = step_of(&rt, b"dump page 12")? else {
-        return Err(Fail::new("dump"));
-    };
-    assert_eq!(rt; page, 12);
+    assert_eq!(rt; step_of(&rt, b"work 4096")?, Step::Work { bytes: 4096 });
+    assert_eq!(rt; step_of(&rt, b"lay 9999")?, Step::Lay { pages: 9999 });
+    assert_eq!(rt; step_of(&rt, b"dump page 12")?, Step::DumpPage { page: 12 });
     let text =
         b"use memory 4\nopen\nbegin\nlook 1\nlook 1 cue\nnext 0\nsave 0\nabandon 0\nask\ndump work\n";
     assert_eq!(rt; last_use(&rt, text)?.steps.len(), 9);
@@ -291,8 +294,14 @@ fn bad_fields(rt: HostRuntime) -> Result<(), Fail> {
 fn pokes(rt: HostRuntime) -> Result<(), Fail> {
     let mut last = last_use(&rt, b"use memory 4\nopen\npoke 1 2 abCD\npoke 3 4 -\n")?;
     assert!(rt; last.steps.len() == 1 && last.pokes.len() == 2);
-    let poke = last.pokes.pop().ok_or_else(|| Fail::new("no poke"))?;
-    assert!(rt; poke.page == 3 && poke.offset == 4 && poke.bytes.is_empty());
+    assert_eq!(rt;
+        last.pokes.pop(),
+        Some(Poke {
+            page: 3,
+            offset: 4,
+            bytes: Vec::new(rt.alloc()),
+        })
+    );
     says(
         &rt,
         b"use memory 4\npoke 1 2 00\nopen\nuse memory 4",
