@@ -1,5 +1,7 @@
 -- A text in two at a byte's first place.
 use Rattle.std.specs.Prelude.{ℕ, ◌+◌, cond, List, [], ◌∷◌, length, Some, None, Option, ◌==◌, Bool, ◌||◌, bytes_eq, codes}
+use Rattle.std.specs.Option.{option_map}
+use Rattle.script.specs.declared.words.Words.{Words}
 use Rattle.script.specs.Spelled.{number_of}
 
 -- the bytes before the first `mark`, or all
@@ -11,6 +13,14 @@ up_to mark (b ∷ bs) = cond (b == mark) [] (b ∷ up_to mark bs)
 abbrev pub after : ℕ → List ℕ → Option (List ℕ)
 after mark [] = None
 after mark (b ∷ bs) = cond (b == mark) (Some bs) (after mark bs)
+
+-- what is left of a line whose words are read
+abbrev pub left_of : Words → Option (List ℕ)
+left_of words = option_map (λ x. x.now) words.rest
+
+-- the next word of what is left of a line
+abbrev pub next_of : Option (List ℕ) → Option (List ℕ)
+next_of left = option_map (up_to 32) left
 
 -- what comes after the next word of what is left of a line
 abbrev pub after_word : Option (List ℕ) → Option (List ℕ)

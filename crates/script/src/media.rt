@@ -1,7 +1,6 @@
 // A medium's words.
 ghost use Rattle.std.specs.Prelude.{◌≡◌, ◌≤◌, codes, IfOk, OnOk, Some};
-ghost use Rattle.std.specs.Option.{option_map};
-ghost use Rattle.script.specs.Parting.{after_word, up_to, word_number};
+ghost use Rattle.script.specs.Parting.{after_word, left_of, next_of, word_number};
 ghost use Rattle.script.specs.Ranges.{pages_of};
 
 use super::fault::Fault;
@@ -14,7 +13,7 @@ const MOST: u32 = 4096;
 
 // A count of pages.
 fn pages(words: &mut Words) -> Result<usize, Fault>
-    ensures { IfOk result (λ n. (n ≤ 4096) × (word_number (option_map (λ x. x.now) words.old.rest) ≡ Some n)) }
+    ensures { IfOk result (λ n. (n ≤ 4096) × (word_number (left_of words.old) ≡ Some n)) }
 {
     let pages = next_number(words)?;
     if pages > MOST {
@@ -40,8 +39,8 @@ fn card(words: &mut Words) -> Result<Card, Fault>
 
 // That the next word names a trial medium.
 fn trial(words: &mut Words) -> Result<(), Fault>
-    ensures word { OnOk result (option_map (up_to 32) (option_map (λ x. x.now) words.old.rest) ≡ Some (codes "trial")) }
-    ensures left { option_map (λ x. x.now) words.new.rest ≡ after_word (option_map (λ x. x.now) words.old.rest) }
+    ensures word { OnOk result (next_of (left_of words.old) ≡ Some (codes "trial")) }
+    ensures left { left_of words.new ≡ after_word (left_of words.old) }
 {
     match next_word(words)? {
         b"trial" => Ok(()),
@@ -51,8 +50,8 @@ fn trial(words: &mut Words) -> Result<(), Fault>
 
 // A window's two numbers.
 fn span(words: &mut Words) -> Result<Span, Fault>
-    ensures first { IfOk result (λ s. word_number (option_map (λ x. x.now) words.old.rest) ≡ Some s.first) }
-    ensures count { IfOk result (λ s. word_number (after_word (option_map (λ x. x.now) words.old.rest)) ≡ Some s.count) }
+    ensures first { IfOk result (λ s. word_number (left_of words.old) ≡ Some s.first) }
+    ensures count { IfOk result (λ s. word_number (after_word (left_of words.old)) ≡ Some s.count) }
 {
     let first = next_number(words)?;
     let count = next_number(words)?;

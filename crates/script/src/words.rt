@@ -3,7 +3,7 @@ ghost use Rattle.std.specs.Prelude.{◌≡◌, ◌==◌, true, false, not, [], l
 ghost use Rattle.std.specs.Iterator.{at_most};
 ghost use Rattle.std.specs.Option.{option_map};
 ghost use Rattle.script.specs.Faults.{Read};
-ghost use Rattle.script.specs.Parting.{up_to, after, after_word, after_line, words_left, word_number};
+ghost use Rattle.script.specs.Parting.{up_to, after, after_word, after_line, left_of, next_of, words_left, word_number};
 
 use super::fault::Fault;
 use super::numbers::number;
@@ -69,14 +69,14 @@ pub struct Words<'a> {
 impl<'a> Words<'a> {
     // All words of a line.
     pub fn new(line: &'a [u8]) -> Words<'a>
-        ensures { option_map (λ x. x.now) result.rest ≡ Some line.now }
+        ensures { left_of result ≡ Some line.now }
     {
         Words { rest: Some(line) }
     }
 
     // The next word, which stays.
     pub fn peek(&self) -> Option<&'a [u8]>
-        ensures { option_map (λ x. x.now) result ≡ option_map (up_to 32) (option_map (λ x. x.now) self.now.rest) }
+        ensures { option_map (λ x. x.now) result ≡ next_of (left_of self.now) }
     {
         let (word, _) = cut(self.rest?, b' ');
         Some(word)
@@ -93,9 +93,9 @@ impl<'a> Words<'a> {
 impl<'a> Iterator for Words<'a> {
     type Item = &'a [u8];
 
-    ghost next_gives = { λ s r t. (option_map (λ x. x.now) r ≡ option_map (up_to 32) (option_map (λ x. x.now) s.rest)) × (option_map (λ x. x.now) t.rest ≡ after_word (option_map (λ x. x.now) s.rest)) };
+    ghost next_gives = { λ s r t. (option_map (λ x. x.now) r ≡ next_of (left_of s)) × (left_of t ≡ after_word (left_of s)) };
 
-    ghost remaining = { λ s. at_most (words_left (option_map (λ x. x.now) s.rest)) };
+    ghost remaining = { λ s. at_most (words_left (left_of s)) };
 
     // The next word.
     fn next(&mut self) -> Option<&'a [u8]> {
@@ -107,16 +107,16 @@ impl<'a> Iterator for Words<'a> {
 
 // The next word, where there must be one.
 pub fn next_word<'a>(words: &mut Words<'a>) -> Result<&'a [u8], Fault>
-    ensures word { Read result (λ word. option_map (up_to 32) (option_map (λ x. x.now) words.old.rest) ≡ Some word.now) (option_map (λ x. x.now) words.old.rest ≡ None) }
-    ensures left { option_map (λ x. x.now) words.new.rest ≡ after_word (option_map (λ x. x.now) words.old.rest) }
+    ensures word { Read result (λ word. next_of (left_of words.old) ≡ Some word.now) (left_of words.old ≡ None) }
+    ensures left { left_of words.new ≡ after_word (left_of words.old) }
 {
     words.next().ok_or(Fault::Bad)
 }
 
 // The next word as a number.
 pub fn next_number(words: &mut Words) -> Result<u32, Fault>
-    ensures number { Read result (λ n. word_number (option_map (λ x. x.now) words.old.rest) ≡ Some n) (word_number (option_map (λ x. x.now) words.old.rest) ≡ None) }
-    ensures left { option_map (λ x. x.now) words.new.rest ≡ after_word (option_map (λ x. x.now) words.old.rest) }
+    ensures number { Read result (λ n. word_number (left_of words.old) ≡ Some n) (word_number (left_of words.old) ≡ None) }
+    ensures left { left_of words.new ≡ after_word (left_of words.old) }
 {
     let word = words.next().ok_or(Fault::Bad)?;
     number(word).ok_or(Fault::Bad)
