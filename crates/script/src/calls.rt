@@ -1,7 +1,9 @@
 // The words of a use's calls.
-ghost use Rattle.std.specs.Prelude.{ℕ, ◌≤◌, List, Option, IfOk};
+ghost use Rattle.std.specs.Prelude.{◌≡◌, ℕ, ◌≤◌, List, Option, None, if◌then◌else◌, is_some, codes, IfOk, OnOk};
 ghost use Rattle.form.specs.Fields.{Makes};
+ghost use Rattle.script.specs.Parting.{after_word, left_of};
 ghost use Rattle.script.specs.Ranges.{work_of};
+ghost use Rattle.script.specs.Readings.{PlainAt};
 
 use super::fault::Fault;
 use super::numbers::{hex, number};
@@ -22,7 +24,9 @@ enum Said {
 }
 
 // The number of a field, where the next word is that field's name, `=` and a number.
-fn field(words: &mut Words, name: &str) -> Result<Option<u32>, Fault> {
+fn field(words: &mut Words, name: &str) -> Result<Option<u32>, Fault>
+    ensures { IfOk result (λ n. left_of words.new ≡ if is_some n then after_word (left_of words.old) else left_of words.old) }
+{
     let digits = words
         .peek()
         .and_then(|word| word.strip_prefix(name.as_bytes()))
@@ -48,7 +52,9 @@ fn fields<V: Fielded>(words: &mut Words) -> Result<Result<V, BadField>, Fault>
 }
 
 // A value to the line's end, or a form's field outside its range.
-fn value(words: &mut Words, heap: Global) -> Result<Result<Said, BadField>, Fault> {
+fn value(words: &mut Words, heap: Global) -> Result<Result<Said, BadField>, Fault>
+    ensures { OnOk result (left_of words.new ≡ None) }
+{
     let value = match next_word(words)? {
         b"cue" => fields::<Cue>(words)?.map(|cue| Said::Item { item: cue.into() }),
         b"still" => fields::<Still>(words)?.map(|still| Said::Item { item: still.into() }),
@@ -107,7 +113,9 @@ fn change(words: &mut Words, heap: Global) -> Result<Step, Fault>
 }
 
 // A look, of bytes or under a form.
-fn look(words: &mut Words) -> Result<Call<Item, ItemKind>, Fault> {
+fn look(words: &mut Words) -> Result<Call<Item, ItemKind>, Fault>
+    ensures { IfOk result (PlainAt (codes "look") (left_of words.old)) }
+{
     let key = next_number(words)?;
     match words.next() {
         None => Ok(Call::Look { key }),
@@ -124,7 +132,9 @@ fn look(words: &mut Words) -> Result<Call<Item, ItemKind>, Fault> {
 }
 
 // A call that has numbers only.
-fn plain(name: &[u8], words: &mut Words) -> Result<Call<Item, ItemKind>, Fault> {
+fn plain(name: &[u8], words: &mut Words) -> Result<Call<Item, ItemKind>, Fault>
+    ensures { IfOk result (PlainAt name.now (left_of words.old)) }
+{
     match name {
         b"open" => Ok(Call::Open),
         b"begin" => Ok(Call::Begin),

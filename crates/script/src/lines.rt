@@ -1,7 +1,8 @@
 // A script's lines.
 ghost use Rattle.std.specs.Prelude.{◌≡◌, IfOk, IfSome};
 ghost use Rattle.script.specs.Kept.{Keeps};
-ghost use Rattle.script.specs.Parting.{begins_use};
+ghost use Rattle.script.specs.Parting.{begins_use, left_of};
+ghost use Rattle.script.specs.Readings.{PokeAt};
 
 use super::calls::step;
 use super::fault::Fault;
@@ -20,7 +21,9 @@ pub enum Line {
 }
 
 // A poke, after its name.
-fn next_poke(words: &mut Words, heap: Global) -> Result<Poke, Fault> {
+fn next_poke(words: &mut Words, heap: Global) -> Result<Poke, Fault>
+    ensures { IfOk result (PokeAt (left_of words.old)) }
+{
     let page = next_number(words)? as usize;
     let offset = next_number(words)? as usize;
     let word = next_word(words)?;

@@ -2,6 +2,7 @@
 ghost use Rattle.std.specs.Prelude.{◌≡◌, ◌≤◌, codes, IfOk, OnOk, Some};
 ghost use Rattle.script.specs.Parting.{after_word, left_of, next_of, word_number};
 ghost use Rattle.script.specs.Ranges.{pages_of};
+ghost use Rattle.script.specs.Readings.{LayersAt, SpanAt};
 
 use super::fault::Fault;
 use super::numbers::pattern;
@@ -50,8 +51,8 @@ fn trial(words: &mut Words) -> Result<(), Fault>
 
 // A window's two numbers.
 fn span(words: &mut Words) -> Result<Span, Fault>
-    ensures first { IfOk result (λ s. word_number (left_of words.old) ≡ Some s.first) }
-    ensures count { IfOk result (λ s. word_number (after_word (left_of words.old)) ≡ Some s.count) }
+    ensures numbers { IfOk result (SpanAt (left_of words.old)) }
+    ensures left { OnOk result (left_of words.new ≡ after_word (after_word (left_of words.old))) }
 {
     let first = next_number(words)?;
     let count = next_number(words)?;
@@ -61,30 +62,44 @@ fn span(words: &mut Words) -> Result<Span, Fault>
     })
 }
 
-// The layers over a trial medium, up to its name; the first word is `name`.
-fn layers(name: &[u8], words: &mut Words) -> Result<Layers, Fault> {
-    match name {
-        b"trial" => Ok(Layers::Bare),
+// The layers over a trial medium from a window on, up to the medium's name.
+fn window(words: &mut Words) -> Result<Layers, Fault>
+    ensures { IfOk result (λ under. LayersAt (codes "window") (left_of words.old) under (left_of words.new)) }
+{
+    let span = span(words)?;
+    match next_word(words)? {
+        b"trial" => Ok(Layers::Window { span }),
+        b"hold" => {
+            trial(words)?;
+            Ok(Layers::WindowHold { span })
+        }
+        _ => Err(Fault::Bad),
+    }
+}
+
+// The same from a holding layer on.
+fn hold(words: &mut Words) -> Result<Layers, Fault>
+    ensures { IfOk result (λ under. LayersAt (codes "hold") (left_of words.old) under (left_of words.new)) }
+{
+    match next_word(words)? {
+        b"trial" => Ok(Layers::Hold),
         b"window" => {
             let span = span(words)?;
-            match next_word(words)? {
-                b"trial" => Ok(Layers::Window { span }),
-                b"hold" => {
-                    trial(words)?;
-                    Ok(Layers::WindowHold { span })
-                }
-                _ => Err(Fault::Bad),
-            }
+            trial(words)?;
+            Ok(Layers::HoldWindow { span })
         }
-        b"hold" => match next_word(words)? {
-            b"trial" => Ok(Layers::Hold),
-            b"window" => {
-                let span = span(words)?;
-                trial(words)?;
-                Ok(Layers::HoldWindow { span })
-            }
-            _ => Err(Fault::Bad),
-        },
+        _ => Err(Fault::Bad),
+    }
+}
+
+// The layers over a trial medium, up to its name; the first word is `name`.
+fn layers(name: &[u8], words: &mut Words) -> Result<Layers, Fault>
+    ensures { IfOk result (λ under. LayersAt name.now (left_of words.old) under (left_of words.new)) }
+{
+    match name {
+        b"trial" => Ok(Layers::Bare),
+        b"window" => window(words),
+        b"hold" => hold(words),
         _ => Err(Fault::Bad),
     }
 }
