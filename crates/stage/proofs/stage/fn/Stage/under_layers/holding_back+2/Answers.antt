@@ -1,4 +1,3 @@
-use Rattle.std.proofs.Common.{rules}
 use Rattle.stage.proofs.Stepping.{made_map}
 use Rattle.stage.proofs.stage.fn.Stage.under_layers.holding_back+2.Goals as goal
 
