@@ -8,7 +8,7 @@ use super::refusal::FileRefusal;
 use layout::{FirstPage, is_sound, pending, valid};
 use octets::part;
 
-// The bytes of a show file, and what its first page tells.
+// The bytes of a show file, and what its first page tells. That it is sound only `check` says.
 #[derive(Clone, Copy)]
 pub struct ShowFile<'a> {
     pub bytes: &'a [u8],

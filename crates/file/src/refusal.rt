@@ -42,6 +42,7 @@ impl fmt::Display for FileRefusal {
 
     fn fmt<W: fmt::Write>(&self, f: &mut fmt::Formatter<W>) -> fmt::Result {
         let number = self.number();
+        // printed as 0 where there is none
         let page = self.page().unwrap_or(0);
         write!(f, "refused {number} page {page}")
     }

@@ -46,7 +46,7 @@ pub trait RecordForm: Sized {
     ghost reads: { List ℕ → Result Self BadByte };
 
     // Puts a value's bytes at the start of `out` and says how many they are; the rest of `out` stays.
-    // The caller lends the memory, since no call takes any.
+    // The caller lends the buffer: that the rest of it stays is promised, so no value with a length is given back.
     fn write(&self, out: &mut [u8; 200]) -> usize
         ensures count { result ≡ length (bytes self.now) }
         ensures after { out.new ≡ patched out.old 0 (bytes self.now) };

@@ -22,7 +22,7 @@ pub trait Forms: Sized {
     ghost reads: { Self.Kind → List ℕ → Result Self BadByte };
 
     // Puts a value's bytes at the start of `out` and says how many they are; the rest of `out` stays.
-    // The caller lends the memory, since no call takes any.
+    // The caller lends the buffer: that the rest of it stays is promised, so no value with a length is given back.
     fn write(&self, out: &mut [u8; 200]) -> usize
         ensures count { result ≡ length (bytes self.now) }
         ensures after { out.new ≡ patched out.old 0 (bytes self.now) };
@@ -39,6 +39,7 @@ pub trait Forms: Sized {
 }
 
 // Kinds that go by numbers, for callers who keep a kind as a byte.
+// No TryFrom, as the library's Either cannot be given one here.
 pub trait Numbered: Sized {
     // The number of a kind.
     ghost number: { Self → ℕ };

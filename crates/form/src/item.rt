@@ -54,7 +54,7 @@ impl Display for Item {
     }
 }
 
-// What an item is.
+// The kinds of items.
 #[derive(Clone, Copy, PartialEq, Eq, Debug)]
 pub enum ItemKind {
     Cue,

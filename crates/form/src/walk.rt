@@ -12,10 +12,7 @@ use octets::{number, write_number};
 pub(super) fn in_range(field: Field, value: Option<u32>) -> bool
     ensures { result ≡ fits field value }
 {
-    match value {
-        Some(n) => field.low <= n && n <= field.high,
-        None => true,
-    }
+    value.is_none_or(|n| (field.low..=field.high).contains(&n))
 }
 
 // The bit of the first number out of its range.
@@ -127,7 +124,7 @@ pub(super) fn read_fields<const N: usize>(
     let mut values = [None; N];
     let mut left = value[0];
     let mut at = 1;
-    // by bit: of elements that are lent a proof knows nothing once they are back
+    // by bit; tried by elements that are lent: a proof knows nothing of them once they are back
     for (bit, field) in fields.iter().enumerate() {
         let (number, end) = read_field(value, *field, left % 2 == 1, at)?;
         values[bit] = number;

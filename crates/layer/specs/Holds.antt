@@ -58,6 +58,10 @@ images l = l.held.items
 abbrev pub layered : {M : Type 0} → (M → Meaning) → Holding M → Meaning
 layered meaning l = holds (meaning l.medium) (images l)
 
+-- the medium below has not stopped
+abbrev pub Runs : {M : Type 0} → (M → Meaning) → Holding M → Type 0
+Runs meaning l = (meaning l.medium).stopped ≡ false
+
 -- images with one more: in the place of the image of the same page, and else last
 abbrev pub put : List Held → Held → List Held
 put [] x = x ∷ []

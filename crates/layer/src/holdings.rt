@@ -1,10 +1,10 @@
 // What a holding layer does.
-ghost use Rattle.std.specs.Prelude.{◌≡◌, ◌<◌, true, false, [], length, None, OnOk, nat_lt};
+ghost use Rattle.std.specs.Prelude.{◌≡◌, ◌<◌, true, [], length, None, OnOk, nat_lt};
 ghost use Rattle.medium.specs.Cuts.{CutMedium};
 ghost use Rattle.medium.specs.Meaning.{Settled, Wrote, good};
 ghost use Rattle.layer.specs.Below.{Drains, Evicts, Flushed, HoldingCuts, Landed, MadeRoom, Puts};
 ghost use Rattle.layer.specs.Distinct.{look};
-ghost use Rattle.layer.specs.Holds.{Placed, holds_sized, image_of, images, layered, over_shows};
+ghost use Rattle.layer.specs.Holds.{Placed, Runs, holds_sized, image_of, images, layered, over_shows};
 
 use super::held::Held;
 use super::holding::Holding;
@@ -40,7 +40,7 @@ impl<M: Medium> Holding<M> {
     // The image that is held longest goes below.
     fn evict(&mut self) -> Result<(), MediumFault>
         requires some { 0 < length (images self.old) }
-        requires runs { (M.Medium.meaning self.old.medium).stopped ≡ false }
+        requires runs { Runs M.Medium.meaning self.old }
         ensures { Evicts M.Medium.meaning (images self.old) self.old.medium (images self.new) self.new.medium result }
     {
         let oldest = self.held[0];
@@ -53,7 +53,7 @@ impl<M: Medium> Holding<M> {
 
     // All images go below, the one held longest first.
     fn flush(&mut self) -> Result<(), MediumFault>
-        requires { (M.Medium.meaning self.old.medium).stopped ≡ false }
+        requires { Runs M.Medium.meaning self.old }
         ensures { Flushed M.Medium.meaning (images self.old) self.old.medium (images self.new) self.new.medium result }
     {
         while !self.held.is_empty() {
@@ -72,7 +72,7 @@ impl<M: Medium> Holding<M> {
 
     // Where eight images are held, one goes below.
     fn make_room(&mut self) -> Result<(), MediumFault>
-        requires { (M.Medium.meaning self.old.medium).stopped ≡ false }
+        requires { Runs M.Medium.meaning self.old }
         ensures made { MadeRoom M.Medium.meaning (nat_lt (length (images self.old)) 8) (images self.old) self.old.medium (images self.new) self.new.medium result }
         ensures room { OnOk result (length (images self.new) < 8) }
     {
@@ -86,7 +86,7 @@ impl<M: Medium> Holding<M> {
     // Holds a page that is not held yet, with a run put in. It is fetched before another goes below.
     fn hold(&mut self, page: usize, at: usize, bytes: &[u8]) -> Result<(), MediumFault>
         requires good { good (M.Medium.meaning self.old.medium).pages page at (length bytes.now) ≡ true }
-        requires runs { (M.Medium.meaning self.old.medium).stopped ≡ false }
+        requires runs { Runs M.Medium.meaning self.old }
         requires new { look (images self.old) page ≡ None }
         ensures { Puts M.Medium.meaning (images self.old) self.old.medium (images self.new) self.new.medium page at bytes.now result }
     {

@@ -37,7 +37,8 @@ impl<M: Medium> Window<M> {
         medium
     }
 
-    // The page below that a good run lies on. A bad run does not come down.
+    // The page below that a good run lies on. A bad run does not come down; whether the medium has stopped is asked there, so
+    // this is no `admit`.
     fn below(&self, page: usize, at: usize, len: usize) -> Result<usize, MediumFault>
         ensures { LiesBelow (seen M.Medium.meaning self.now) self.now.first page at len result }
     {
@@ -67,7 +68,6 @@ impl<M: Medium> Medium for Window<M> {
         self.medium.stopped()
     }
 
-    // Whether the medium has stopped is asked below.
     fn read(&self, page: usize, at: usize, out: &mut [u8]) -> Result<(), MediumFault> {
         let below = self.below(page, at, out.len())?;
         self.medium.read(below, at, out)

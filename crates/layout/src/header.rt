@@ -61,7 +61,7 @@ impl Header {
         }
     }
 
-    // The edit number if it counts, from 1 to the counter; else 0.
+    // The edit number if it counts, from 1 to the counter; else 0. 0 counts as none, as it does in the file.
     fn rank(&self, counter: u32) -> u32
         ensures { result ≡ rank counter self.now.number }
     {
@@ -76,7 +76,7 @@ impl Header {
     pub fn slot(&self, page: &[u8], k: u16) -> Slot
         ensures { result ≡ slot_of page.now self.now.side k }
     {
-        let at = self.side.start() + 8 + 4 * k as usize;
+        let at = self.side.start() + 8 + 4 * usize::from(k);
         Slot {
             offset: number(page, at, Width::Two) as u16,
             length: number(page, at + 2, Width::Two) as u16,
@@ -85,6 +85,7 @@ impl Header {
 }
 
 // The header that counts under a counter: the one with the greater edit number among those from 1 to the counter.
+// A page and a counter are handed in and not kept together: who has them makes one call and then writes to the page.
 pub fn valid(page: &[u8], counter: u32) -> Option<Header>
     ensures { result ≡ valid counter page.now }
 {
@@ -102,9 +103,9 @@ pub fn pending(page: &[u8], counter: u32) -> usize
     ensures { result ≡ pending_on counter page.now }
 {
     // one more than the counter may not fit its type
-    let next = counter as u64 + 1;
+    let next = u64::from(counter) + 1;
     [Side::A, Side::B]
         .iter()
-        .filter(|side| Header::read(page, **side).number as u64 == next)
+        .filter(|side| u64::from(Header::read(page, **side).number) == next)
         .count()
 }

@@ -19,7 +19,7 @@ impl<'a> Record<'a> {
     pub fn read(page: &'a [u8], slot: Slot) -> Record<'a>
         ensures { seen result ≡ entry_of page.now slot }
     {
-        let bytes = part(page, slot.offset as usize, slot.length as usize);
+        let bytes = part(page, usize::from(slot.offset), usize::from(slot.length));
         let [a, b, c, d, value @ ..] = bytes else {
             return Record {
                 key: number(bytes, 0, Width::Four),

@@ -19,8 +19,8 @@ fn numbers_sound(page: &[u8], counter: u32) -> bool
     let a = Header::read(page, Side::A).number;
     let b = Header::read(page, Side::B).number;
     // one more than the counter may not fit its type
-    let most = counter as u64 + 1;
-    a as u64 <= most && b as u64 <= most && (a != b || a == 0)
+    let most = u64::from(counter) + 1;
+    u64::from(a) <= most && u64::from(b) <= most && (a != b || a == 0)
 }
 
 // Whether two slots share no byte and the first holds the lesser key.

@@ -40,10 +40,10 @@ pub fn number(bytes: &[u8], at: usize, width: Width) -> u32
     ensures value { result ≡ big (part bytes.now at (size width)) }
     ensures bound { result < 256 ^ size width }
 {
-    // no fold: a closure would have to be shown, call by call, to keep the number in range
+    // tried as a fold: the closure would have to be shown to keep the number in range
     let mut n: u32 = 0;
     for b in part(bytes, at, width.size()) {
-        n = n * 256 + *b as u32;
+        n = n * 256 + u32::from(*b);
     }
     n
 }
