@@ -1,6 +1,6 @@
 -- What an accepted reading of a family says of the form that read.
 use Rattle.std.specs.Prelude.{◌≡◌, ℕ, zero, suc, ◌/◌, ◌%◌, Bool, true, false, cond, List, Ok, Err, Result, ◌==◌, refl}
-use Rattle.std.proofs.Common.{ap, sym, subst, arith}
+use Rattle.std.proofs.Common.{ap, sym, subst, ◌∙◌, arith}
 use Rattle.std.proofs.lemmas.Bool.{eqb-true, eqb-false}
 use Rattle.octets.specs.Parts.{Bytes}
 use Rattle.form.specs.declared.form.BadByte.{BadByte}
@@ -9,7 +9,7 @@ use Rattle.either.specs.declared.Either.TheVariants.{Left, Right}
 use Rattle.form.specs.Pairs.{either_kind, either_bytes, either_reads, either_number, either_numbered}
 use Rattle.form.specs.declared.item.ItemKind.TheVariants.{Cue as ACue, Still as AStill}
 use Rattle.form.specs.Items.{kind_number, kind_numbered}
-use Rattle.form.specs.Wraps.{wrapped}
+use Rattle.form.specs.Wraps.{wrapped, reads_as_found, reads_numbered}
 use Rattle.form.specs.Inverses.{ok_same, not_ok}
 
 -- what holds of each value of the form that was read, wrapped, holds of the value of the family
@@ -47,6 +47,23 @@ module _ {K L : Type 0} (nK : K → ℕ) (fK : ℕ → Result K BadByte) (nL : L
 
   pub either_number_back : NumberBack (either_number nK nL) (either_numbered fK fL)
   either_number_back n k = side_back n k (n % 2 == 0) refl
+
+module _ {A K : Type 0} (kind : A → K) (bytes : A → List ℕ) (reads : K → List ℕ → Result A BadByte) (number : K → ℕ) (numbered : ℕ → Result K BadByte) where
+  -- the bytes of a value, read under its kind's number, are that value
+  pub numbered_there : ((k : K) → numbered (number k) ≡ Ok k) → ((v : A) → reads (kind v) (bytes v) ≡ Ok v) → (v : A) → reads_numbered numbered reads (number (kind v)) (bytes v) ≡ Ok v
+  numbered_there found there v = ap (λ r. reads_as_found reads r (bytes v)) (found (kind v)) ∙ there v
+
+  found_back : Back kind bytes reads → NumberBack number numbered → (n : ℕ) (b : List ℕ) (v : A) (r : Result K BadByte) → numbered n ≡ r → Bytes b → reads_as_found reads r b ≡ Ok v
+      → (number (kind v) ≡ n) × (bytes v ≡ b)
+  found_back back back_number n b v (Ok k) found octets e =
+      let p = back k b v octets e in
+      (ap number p.0 ∙ back_number n k found, p.1)
+  found_back back back_number n b v (Err x) found octets e = not_ok x v e
+
+  -- bytes that are read as a value under a number are the bytes of that value, and the number is its kind's
+  pub numbered_back : Back kind bytes reads → NumberBack number numbered → (n : ℕ) (b : List ℕ) (v : A) → Bytes b → reads_numbered numbered reads n b ≡ Ok v
+      → (number (kind v) ≡ n) × (bytes v ≡ b)
+  numbered_back back back_number n b v octets e = found_back back back_number n b v (numbered n) refl octets e
 
 -- an item's kind has the number that it was found by
 pub kind_number_back : NumberBack kind_number kind_numbered

@@ -44,6 +44,7 @@ fn bit_map<const N: usize>(top: u8, values: &[Option<u32>; N]) -> u8
     requires { (top + 1) * 2 ^ N ≤ 256 }
     ensures { result ≡ bit_map top values.now }
 {
+    // tried as a fold: the closure would have to be shown to keep the map in range
     let mut map = top;
     for value in values.iter().rev() {
         map = 2 * map + u8::from(value.is_some());
