@@ -1,5 +1,5 @@
 // Forms of four optional numbers: what each says of itself, and what all do alike.
-ghost use Rattle.std.specs.Prelude.{◌≡◌, ℕ, ◌<◌, true, List, length, map, Some, Option};
+ghost use Rattle.std.specs.Prelude.{◌≡◌, ℕ, ◌<◌, true, List, length, map, Option};
 ghost use Rattle.std.specs.Fmt.{WritesOnOk};
 ghost use Rattle.octets.specs.Parts.{patched};
 ghost use Rattle.form.specs.declared.field.Field.{Field};

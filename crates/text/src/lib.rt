@@ -1,7 +1,7 @@
 // How bytes and record values are shown as text.
 #![tactic(auto)]
 
-ghost use Rattle.std.specs.Prelude.{◌≡◌, ◌<◌, Some};
+ghost use Rattle.std.specs.Prelude.{Some};
 ghost use Rattle.text.specs.Texts.{hex_text, value_text};
 
 use form::{Cue, RecordForm, Still};
