@@ -39,15 +39,13 @@ pub(super) fn place(saved: &[Slot], slots: &[Slot], n: usize) -> Option<usize>
     requires { (4 ≤ n) × (n ≤ 204) }
     ensures { Highest (saved.now ++ slots.now) n result }
 {
-    let mut at = 1024 - n;
-    let found = 'search: loop {
-        if !is_taken(saved, slots, at, n) {
-            break 'search Some(at);
+    let found = 'search: {
+        for at in (CONTENT..=1024 - n).rev() {
+            if !is_taken(saved, slots, at, n) {
+                break 'search Some(at);
+            }
         }
-        if at <= CONTENT {
-            break 'search None;
-        }
-        at -= 1;
+        None
     };
     found
 }
