@@ -4,6 +4,7 @@ ghost use Rattle.std.specs.List.{flat_map};
 ghost use Rattle.octets.specs.Parts.{patched};
 ghost use Rattle.draft.specs.Images.{slot_bytes, with_header};
 
+use super::load::Slots;
 use layout::{Side, Slot};
 use octets::{Width, write_number};
 
@@ -21,16 +22,15 @@ fn write_slots(page: &mut [u8], at: usize, slots: &[Slot])
     requires { at + 4 * length slots.now ≤ length page.old }
     ensures { page.new ≡ patched page.old at (flat_map slot_bytes slots.now) }
 {
-    // by index: what is written through chunks that are lent is not known afterwards
+    // tried by chunks that are lent: what is written through them is not known afterwards
     for (k, slot) in slots.iter().enumerate() {
         write_slot(page, at + 4 * k, *slot);
     }
 }
 
 // Puts a header of these slots on one side of a page: zeros in all that is not used.
-pub(super) fn write_header(page: &mut [u8], side: Side, number: u32, slots: &[Slot])
-    requires { (length page.old ≡ 1024) × (length slots.now ≤ 24) }
-    ensures { page.new ≡ with_header page.old side number slots.now }
+pub(super) fn write_header(page: &mut [u8; 1024], side: Side, number: u32, slots: &Slots)
+    ensures { page.new ≡ with_header page.old side number slots.now.items }
 {
     let start = side.start();
     write_number(page, start, Width::Four, number);

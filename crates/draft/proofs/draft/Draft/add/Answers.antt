@@ -28,8 +28,8 @@ returns c =
       c.in_ok-at.at,
       subst (λ ss. Highest ss (4 + length c.args.value.bytes.now) (Some c.in_ok-at.at)) b (subst (Highest (c.deref.result.now ++ c.deref-2.result.now) (4 + length c.args.value.bytes.now)) n c.place.ensures),
       placed_is c.args.self.counter c.args.page.now c.write_header.new.page c.args.key c.args.value.bytes.now _ c.target-side.result
-          c.args.slots.items c.deref-4.result.now c.in_ok-at.at (search (rules, put_mid_patched)) c.target-side.ensures
-          (c.deref-4.ensures.0 ∙ c.insert.ensures.items
+          c.args.slots.items c.insert.new.self.items c.in_ok-at.at (search (rules, put_mid_patched)) c.target-side.ensures
+          (c.insert.ensures.items
           ∙ ap (λ ss. insert ss c.index_for-i.result (slot_at c.in_ok-at.at c.args.value.bytes.now)) (sym c.deref-3.ensures.0)
           ∙ sym (c.index_for-i.ensures.puts (slot_at c.in_ok-at.at c.args.value.bytes.now))
           ∙ ap (put_in c.args.page.now c.args.key (slot_at c.in_ok-at.at c.args.value.bytes.now)) c.deref-3.ensures.0)

@@ -21,8 +21,8 @@ returns c =
     (c.deref.ensures.0 ∙ c.load-slots.ensures) c.index_of.ensures n in (
       f.1,
       c.write_header.ensures
-          ∙ ap (λ s. with_header c.args.page.now s (c.args.self.counter + 1) c.deref-2.result.now) c.target-side.ensures
+          ∙ ap (λ s. with_header c.args.page.now s (c.args.self.counter + 1) c.remove.new.self.items) c.target-side.ensures
           ∙ ap (with_header c.args.page.now (target c.args.self.counter c.args.page.now) (c.args.self.counter + 1))
-          (c.deref-2.ensures.0 ∙ taken_is c.args.page.now c.args.key c.in_ok-i.i (draft_slots c.args.self.counter c.args.page.now)
+          (taken_is c.args.page.now c.args.key c.in_ok-i.i (draft_slots c.args.self.counter c.args.page.now)
           c.load-slots.result.items c.remove.new.self.items c.load-slots.ensures c.remove.ensures.items f.2),
     )
