@@ -1,7 +1,6 @@
 // The slots of a draft, and the headers that a change reads and writes.
-ghost use Rattle.std.specs.Prelude.{◌≡◌, ◌+◌, ◌==◌, [], ◌∷◌, map, take};
-ghost use Rattle.std.specs.List.{find};
-ghost use Rattle.layout.specs.declared.header.Side.TheVariants.{A, B};
+ghost use Rattle.std.specs.Prelude.{◌≡◌, take};
+ghost use Rattle.std.specs.Option.{option_map};
 ghost use Rattle.layout.specs.Pages.{header_of, slots_by};
 ghost use Rattle.draft.specs.Drafts.{begun_side, draft_slots, slots_on, target};
 
@@ -38,7 +37,7 @@ pub(super) fn first_slots(page: &[u8], header: Option<Header>) -> Slots
 impl Draft {
     // The header that was begun: the one numbered one more than the counter.
     fn begun(self, page: &[u8]) -> Option<Header>
-        ensures { result ≡ find (λ h. h.number == self.counter + 1) (map (header_of page.now) (A ∷ B ∷ [])) }
+        ensures { result ≡ option_map (header_of page.now) (begun_side self.counter page.now) }
     {
         let next = self.counter + 1;
         [Side::A, Side::B]
