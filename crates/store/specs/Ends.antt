@@ -18,9 +18,9 @@ abbrev pub Unmatched : State → ℕ → Type 0
 Unmatched s number = (first : FirstPage) → Matches s number first → ⊥
 
 -- spending a slip of this number: the edit is the open one, and the store is shut; or it is not, and nothing changes
-abbrev pub Spends : ℕ → State → State → Result FirstPage Refusal → Type 0
-Spends number s t (Ok first) = Matches s number first × (t ≡ Shut)
-Spends number s t (Err x) = (x ≡ NoEdit) × Unmatched s number × (t ≡ s)
+abbrev pub SpendsOr : ℕ → State → State → Result FirstPage Refusal → Type 0
+SpendsOr number s t (Ok first) = Matches s number first × (t ≡ Shut)
+SpendsOr number s t (Err x) = (x ≡ NoEdit) × Unmatched s number × (t ≡ s)
 
 -- a settle, or the medium's refusal of it
 abbrev pub SettlesOr : Meaning → Meaning → Result (Unit {0}) Refusal → Type 0

@@ -20,9 +20,9 @@ Idle (Open first) = Unit {0}
 Idle (Editing first) = ⊥
 
 -- whether no edit is open, asked of the state
-abbrev pub Rests : State → Result (Unit {0}) Refusal → Type 0
-Rests s (Ok _) = Idle s
-Rests s (Err e) = (e ≡ EditOpen) × (Idle s → ⊥)
+abbrev pub IdleOr : State → Result (Unit {0}) Refusal → Type 0
+IdleOr s (Ok _) = Idle s
+IdleOr s (Err e) = (e ≡ EditOpen) × (Idle s → ⊥)
 
 -- a first page that is read, and what it tells
 abbrev pub First : Meaning → FirstPage → Type 0

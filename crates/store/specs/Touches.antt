@@ -16,7 +16,8 @@ abbrev pub added : ℕ → List ℕ → List ℕ
 added p [] = p ∷ []
 added p (q ∷ qs) = cond (p == q) (q ∷ qs) (cond (nat_lt p q) (p ∷ q ∷ qs) (q ∷ added p qs))
 
--- where a page belongs among others, and whether it is there: put there, or left as they are, they are the pages with it
+-- where a page belongs among others, and whether it is there: put there, or left as they are, they are the pages with it;
+-- the proof of Touched::add cites it
 abbrev pub Belongs : ℕ → List ℕ → ℕ → Bool → Type 0
 Belongs p qs at true = qs ≡ added p qs
 Belongs p qs at false = (at ≤ length qs) × (take at qs ++ p ∷ drop at qs ≡ added p qs)

@@ -43,7 +43,7 @@ impl<M: Medium> Store<M> {
         ensures edits { Edits M.Medium.meaning (page_change change key value.now) key slip.now.number (nat_lt 200 (length value.now)) self.old.medium self.new.medium self.old.state self.old.edit self.new.edit work.old work.new result }
         ensures state { self.new.state ≡ self.old.state }
     {
-        // past an `ok_or` the proof would have to find again that the page is all of `work`
+        // tried with `ok_or`: past it the proof has to find again that the page is all of `work`
         let Some(page) = work.as_mut_array::<1024>() else {
             return Err(Refusal::WorkPage);
         };

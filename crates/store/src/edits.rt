@@ -1,6 +1,6 @@
 // Beginning an edit, and what its changes share.
 ghost use Rattle.std.specs.Prelude.{◌≡◌, ◌<◌, [], MatchOption};
-ghost use Rattle.store.specs.Opens.{Rests};
+ghost use Rattle.store.specs.Opens.{IdleOr};
 ghost use Rattle.store.specs.Edits.{Begins, Matches, Noted, Offers, Ready, touched_by};
 
 use super::refusal::{Refusal, Step};
@@ -51,7 +51,7 @@ impl State {
 
     // Refuses while an edit is open.
     pub(super) fn idle(&self) -> Result<(), Refusal>
-        ensures { Rests self.now result }
+        ensures { IdleOr self.now result }
     {
         match self {
             State::Editing { .. } => Err(Refusal::EditOpen),

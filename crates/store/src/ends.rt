@@ -1,6 +1,6 @@
 // The two ends of an edit. Both spend the slip, however they end.
 ghost use Rattle.std.specs.Prelude.{◌≡◌, ℕ, MatchResult};
-ghost use Rattle.store.specs.Ends.{Abandons, Commits, CountsOr, Saves, SettlesOr, Spends};
+ghost use Rattle.store.specs.Ends.{Abandons, Commits, CountsOr, Saves, SettlesOr, SpendsOr};
 ghost use Rattle.store.specs.Opening.{Clears, ClearsUntil};
 
 use super::clear::clear_page;
@@ -51,7 +51,7 @@ fn clear_each<M: Medium>(medium: &mut M, pages: &[usize], counter: u32) -> Resul
 impl State {
     // Spends a slip: if it is that of the open edit, the store is shut.
     fn spend(&mut self, slip: Slip) -> Result<FirstPage, Refusal>
-        ensures { Spends slip.number self.old self.new result }
+        ensures { SpendsOr slip.number self.old self.new result }
     {
         let Slip { number } = slip;
         let first = self.editing(number).ok_or(Refusal::NoEdit)?;

@@ -60,7 +60,7 @@ impl<M: Medium> Store<M> {
     pub(super) fn find(&self, work: &mut [u8], key: u32) -> Result<(usize, Place), Refusal>
         ensures { Finds (M.Medium.meaning self.now.medium) self.now.state key work.old work.new result }
     {
-        // past an `ok_or` the proof would have to find again that the page is all of `work`
+        // tried with `ok_or`: past it the proof has to find again that the page is all of `work`
         let Some(page) = work.as_mut_array::<1024>() else {
             return Err(Refusal::WorkPage);
         };

@@ -54,7 +54,7 @@ impl<M: Medium> Store<M> {
     pub fn next(&self, work: &mut [u8], least: u32) -> Result<u32, Refusal>
         ensures { Nexts (M.Medium.meaning self.now.medium) self.now.state least work.old work.new result }
     {
-        // past an `ok_or` the proof would have to find again that the page is all of `work`
+        // tried with `ok_or`: past it the proof has to find again that the page is all of `work`
         let Some(page) = work.as_mut_array::<1024>() else {
             return Err(Refusal::WorkPage);
         };

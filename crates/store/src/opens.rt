@@ -19,7 +19,7 @@ impl<M: Medium> Store<M> {
         ensures sound { OpensSound (M.Medium.meaning self.old.medium) result }
         ensures edit { self.new.edit ≡ self.old.edit }
     {
-        // past an `ok_or` the proof would have to find again that the page is all of `work`
+        // tried with `ok_or`: past it the proof has to find again that the page is all of `work`
         let Some(page) = work.as_mut_array::<1024>() else {
             return Err(Refusal::WorkPage);
         };
