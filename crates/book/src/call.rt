@@ -83,9 +83,7 @@ pub enum Denied {
 impl From<Refusal> for Denied {
     ghost from_gives = { λ refusal denied. denied ≡ Store refusal };
 
-    fn from(refusal: Refusal) -> Denied
-        ensures { result ≡ Store refusal }
-    {
+    fn from(refusal: Refusal) -> Denied {
         Denied::Store { refusal }
     }
 }

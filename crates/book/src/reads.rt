@@ -22,7 +22,7 @@ impl<'a, M: Medium> Desk<'a, M> {
             .look(work, key)
             .map_err(|refusal| Denied::Form { key, refusal })?;
         let page = self.store.page_of(key).unwrap();
-        // no `map_err`: the proof takes the bad byte from the match
+        // tried with `map_err`: the proof takes the bad byte from the match
         match F::read(of, value_at(work, place)) {
             Ok(value) => Ok(Done::Value { value }),
             Err(bad) => Err(Denied::NotOfForm { key, page, bad }),

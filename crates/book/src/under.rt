@@ -24,6 +24,7 @@ fn apply<M: Medium>(
     ensures edits { Edits M.Medium.meaning (page_change change key value.now) key slip.now.number (nat_lt 200 (length value.now)) store.old.medium store.new.medium store.old.state store.old.edit store.new.edit work.old work.new result }
     ensures state { store.new.state ≡ store.old.state }
 {
+    // the store's three calls, each by its name
     match change {
         Change::Put => store.put(work, slip, key, value),
         Change::Replace => store.change(work, slip, key, value),

@@ -50,8 +50,7 @@ pub(super) fn make_and_save<M: Medium>(
 // Whether a saved value lies at a place of its page.
 pub(super) fn lies<M: Medium>(store: &Store<M>, key: u32, at: usize, value: &[u8]) -> bool {
     let mut work = [0; 1024];
-    match store.look(&mut work, key) {
-        Ok(place) => place.at == at && value_at(&work, place) == value,
-        Err(_) => false,
-    }
+    store
+        .look(&mut work, key)
+        .is_ok_and(|place| place.at == at && value_at(&work, place) == value)
 }
