@@ -70,7 +70,7 @@ impl Slips {
         ensures { store.old.state ≡ Shut → (store.new.state ≡ Shut) × (store.new.medium ≡ store.old.medium) }
     {
         let Slips { mut given } = self;
-        // no `for`: it would own the slips, and it can be left with some, which cannot be dropped
+        // tried with a `for`: it asks that what it owns can be dropped, which a slip cannot
         while let Some(place) = given.pop() {
             if let Some(slip) = place {
                 let _ = store.abandon(slip);
