@@ -40,8 +40,7 @@ struct Fifth {
 // Fills a page in one edit, tries a fifth put and a change, and saves.
 fn fill<M: Medium>(store: &mut Store<M>) -> Result<Fifth, Refusal> {
     let slip = store.begin()?;
-    let filled =
-        (1u32..5).try_for_each(|key| make(store, &slip, Change::Put, key, &[1; 200]));
+    let filled = (1u32..5).try_for_each(|key| make(store, &slip, Change::Put, key, &[1; 200]));
     let put = number_of(make(store, &slip, Change::Put, 5, &[1; 200]));
     let change = number_of(make(store, &slip, Change::Replace, 2, &[2; 200]));
     store.save(slip)?;
