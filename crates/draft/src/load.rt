@@ -27,6 +27,7 @@ pub(super) fn first_slots(page: &[u8], header: Option<Header>) -> Slots
 {
     let mut slots = ArrayVec::new();
     if let Some(header) = header {
+        // tried with `extend`: it answers whether there was room, to be thrown away, where `push` asks for the room
         for k in 0..header.count.min(24) {
             slots.push(header.slot(page, k));
         }
