@@ -1,7 +1,8 @@
 -- Least numbers, and the ways in which a next key is found.
-use Rattle.std.proofs.Common.{◌≡◌, ℕ, ◌+◌, ◌-◌, ◌<◌, ◌≤◌, cond, eqb, ◌⊎◌, List, [], ◌∷◌, length, Some, None, Ok, Err, Option, Result, sym, refl, ap, ◌∙◌, subst, inl, inr, ⊎_elim, arith}
-use Rattle.std.specs.Option.{ok_or}
-use Rattle.std.proofs.lemmas.Bool.{cases_eq, cases_lt, cond-true, cond-false, eq-eqb, ne_eqb}
+use Rattle.std.proofs.Common.{◌≡◌, ℕ, ◌+◌, ◌-◌, ◌<◌, ◌≤◌, min, cond, eqb, leb, ◌⊎◌, List, [], ◌∷◌, ◌++◌, map, length, Some, None, Ok, Err, Option, Result, sym, refl, ap, ◌∙◌, subst, inl, inr, ⊎_elim, arith}
+use Rattle.std.specs.List.{filter, fold, reduce}
+use Rattle.std.specs.Option.{ok_or, option_to_list}
+use Rattle.std.proofs.lemmas.Bool.{cases_eq, cases_lt, cond-true, cond-false, eq-eqb, ne_eqb, le-leb, lt-leb}
 use Rattle.medium.specs.Meaning.{Meaning}
 use Rattle.layout.specs.declared.first.FirstPage.{FirstPage}
 use Rattle.layout.specs.Pages.{Entry, records}
@@ -41,46 +42,79 @@ key_first k e es is none =
 key_later : (k : ℕ) (e : Entry) (es : List Entry) → (k ≡ e.key → ⊥) → keyed k (e ∷ es) ≡ keyed k es
 key_later k e es not = cond-false (eqb e.key k) (Some e) (keyed k es) (ne_eqb e.key k (λ is. not (sym is)))
 
--- what is the least after a record is the least with it
-module _ (least : ℕ) (near : Option ℕ) (e : Entry) (es all : List Entry) (r : Option ℕ) (is : all ≡ e ∷ es) where
-  pub near_passed : e.key < least → Least (Offered least near es) r → Least (Offered least near all) r
-  near_passed low h =
-      subst (λ xs. Least (Offered least near xs) r) (sym is)
-      (least_same (Offered least near es) (Offered least near (e ∷ es)) r
-      (λ k. ⊎_elim (λ b. inl b) (λ t. inr ((λ none. t.0 (sym (later k t.1) ∙ none)), t.1)))
-      (λ k. ⊎_elim (λ b. inl b) (λ t. inr ((λ none. t.0 (later k t.1 ∙ none)), t.1))) h)
-    where
-      later : (k : ℕ) → least ≤ k → keyed k (e ∷ es) ≡ keyed k es
-      later k l = key_later k e es (λ same. omega arith)
+-- one of some numbers
+abbrev Among : List ℕ → ℕ → Type 0
+Among [] k = ⊥
+Among (x ∷ xs) k = (k ≡ x) ⊎ Among xs k
 
-  pub near_taken : (new : Option ℕ) → least ≤ e.key → Least (λ k. (near ≡ Some k) ⊎ (k ≡ e.key)) new → Least (Offered least new es) r → Least (Offered least near all) r
-  near_taken new high h j =
-      subst (λ xs. Least (Offered least near xs) r) (sym is)
-      (least_same (λ k. Met k ⊎ Later k) (Offered least near (e ∷ es)) r to from (least_both Met Later new r h j))
-    where
-      Met : ℕ → Type 0
-      Met k = (near ≡ Some k) ⊎ (k ≡ e.key)
+least_fold : (xs : List ℕ) (x : ℕ) → Least (Among (x ∷ xs)) (Some (fold min x xs))
+least_fold [] x = (inl refl, λ k. ⊎_elim (λ e. omega arith) (λ none. absurd none))
+least_fold (y ∷ ys) x =
+    let h = least_fold ys (min x y) in
+    let l = h.1 (min x y) (inl refl) in (
+      ⊎_elim (λ (e : fold min (min x y) ys ≡ min x y). ⊎_elim (λ (below : x < y). inl (omega arith)) (λ (above : y ≤ x). inr (inl (omega arith))) (cases_lt x y))
+          (λ i. inr (inr i)) h.0,
+      λ k. ⊎_elim (λ e. omega arith) (⊎_elim (λ e. omega arith) (λ i. h.1 k (inr i))),
+    )
 
-      Later : ℕ → Type 0
-      Later k = (keyed k es ≡ None → ⊥) × (least ≤ k)
+-- the least of some numbers
+least_of : (xs : List ℕ) → Least (Among xs) (reduce min xs)
+least_of [] = λ k none. none
+least_of (x ∷ xs) = least_fold xs x
 
-      to : (k : ℕ) → Met k ⊎ Later k → Offered least near (e ∷ es) k
-      to k (inl (inl b)) = inl b
-      to k (inl (inr same)) = inr (key_first k e es same, omega arith)
-      to k (inr t) =
-          ⊎_elim (λ same. inr (key_first k e es same, t.1)) (λ not. inr ((λ none. t.0 (sym (key_later k e es not) ∙ none)), t.1)) (cases_eq k e.key)
+-- the keys of some records that are not below a given one, and the best so far
+module _ (least : ℕ) (best : Option ℕ) where
+  abbrev keys : List Entry → List ℕ
+  keys es = filter (leb least) (map (λ e. e.key) es) ++ option_to_list best
 
-      from : (k : ℕ) → Offered least near (e ∷ es) k → Met k ⊎ Later k
-      from k (inl b) = inl (inl b)
-      from k (inr t) = ⊎_elim (λ same. inl (inr same)) (λ not. inr ((λ none. t.0 (key_later k e es not ∙ none)), t.1)) (cases_eq k e.key)
+  best_to : (o : Option ℕ) (k : ℕ) → Among (option_to_list o) k → o ≡ Some k
+  best_to None k none = absurd none
+  best_to (Some x) k (inl e) = ap Some (sym e)
+  best_to (Some x) k (inr none) = absurd none
 
--- nothing is left
-pub near_end : (least : ℕ) (near : Option ℕ) (es : List Entry) → es ≡ [] → Least (Offered least near es) near
-near_end least near es is = subst (λ xs. Least (Offered least near xs) near) (sym is) (at near)
-  where
-    at : (o : Option ℕ) → Least (Offered least o []) o
-    at None = λ k. ⊎_elim (λ (e : None ≡ Some k). let z : ◌≡◌ {A = ℕ} 0 1 = cc in omega arith) (λ t. t.0 refl)
-    at (Some key) = (inl refl, λ k. ⊎_elim (λ (e : Some key ≡ Some k). let same : key ≡ k = cc in omega arith) (λ t. absurd (t.0 refl)))
+  best_from : (o : Option ℕ) (k : ℕ) → o ≡ Some k → Among (option_to_list o) k
+  best_from None k e = let z : ◌≡◌ {A = ℕ} 0 1 = cc in absurd (omega arith)
+  best_from (Some x) k e = inl (let is : x ≡ k = cc in sym is)
+
+  -- what is offered of the records after one, with that one
+  later : (e : Entry) (es : List Entry) (k : ℕ) → Offered least best es k → Offered least best (e ∷ es) k
+  later e es k (inl b) = inl b
+  later e es k (inr t) =
+      inr (⊎_elim (λ same. key_first k e es same) (λ not none. t.0 (sym (key_later k e es not) ∙ none)) (cases_eq k e.key), t.1)
+
+  first : (e : Entry) (es : List Entry) (k : ℕ) → Offered least best (e ∷ es) k → ((k ≡ e.key) × (least ≤ k)) ⊎ Offered least best es k
+  first e es k (inl b) = inr (inl b)
+  first e es k (inr t) = ⊎_elim (λ same. inl (same, t.1)) (λ not. inr (inr ((λ none. t.0 (key_later k e es not ∙ none)), t.1))) (cases_eq k e.key)
+
+  low : (e : Entry) (es : List Entry) → e.key < least → keys (e ∷ es) ≡ keys es
+  low e es l =
+      ap (λ ks. ks ++ option_to_list best)
+      (cond-false (leb least e.key) (e.key ∷ filter (leb least) (map (λ e. e.key) es)) (filter (leb least) (map (λ e. e.key) es)) (lt-leb least e.key l))
+
+  high : (e : Entry) (es : List Entry) → least ≤ e.key → keys (e ∷ es) ≡ e.key ∷ keys es
+  high e es h =
+      ap (λ ks. ks ++ option_to_list best)
+      (cond-true (leb least e.key) (e.key ∷ filter (leb least) (map (λ e. e.key) es)) (filter (leb least) (map (λ e. e.key) es)) (le-leb least e.key h))
+
+  to : (es : List Entry) (k : ℕ) → Among (keys es) k → Offered least best es k
+  to [] k i = inl (best_to best k i)
+  to (e ∷ es) k i =
+      ⊎_elim (λ l. later e es k (to es k (subst (λ ks. Among ks k) (low e es l) i)))
+      (λ h. ⊎_elim (λ same. inr (key_first k e es same, omega arith)) (λ j. later e es k (to es k j)) (subst (λ ks. Among ks k) (high e es h) i))
+      (cases_lt e.key least)
+
+  from : (es : List Entry) (k : ℕ) → Offered least best es k → Among (keys es) k
+  from [] k (inl b) = best_from best k b
+  from [] k (inr t) = absurd (t.0 refl)
+  from (e ∷ es) k o =
+      ⊎_elim (λ l. subst (λ ks. Among ks k) (sym (low e es l)) (⊎_elim (λ s. absurd (omega (arith, s.0, s.1))) (from es k) (first e es k o)))
+      (λ h. subst (λ ks. Among ks k) (sym (high e es h)) (⊎_elim (λ s. inl s.0) (λ p. inr (from es k p)) (first e es k o)))
+      (cases_lt e.key least)
+
+  pub nearest_is : (es : List Entry) (r : Option ℕ) → r ≡ reduce min (filter (leb least) (map (λ e. e.key) es) ++ option_to_list best) → Least (Offered least best es) r
+  nearest_is es r e =
+      subst (Least (Offered least best es)) (sym e)
+      (least_same (Among (keys es)) (Offered least best es) (reduce min (keys es)) (to es) (from es) (least_of (keys es)))
 
 -- a key that is not below a given one is saved on a page before page q
 abbrev pub Passed : Meaning → FirstPage → ℕ → ℕ → ℕ → Type 0

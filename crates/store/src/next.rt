@@ -1,5 +1,4 @@
 // Going over the saved keys.
-ghost use Rattle.std.specs.Prelude.{◌≡◌, ◌⊎◌, Some};
 ghost use Rattle.layout.specs.Pages.{records};
 ghost use Rattle.store.specs.Nexts.{Least, Nexts, Offered, Sweeps};
 
@@ -9,27 +8,15 @@ use super::store::Store;
 use layout::{FirstPage, Records};
 use medium::Medium;
 
-// The lesser of the best so far and a key.
-fn lesser(best: Option<u32>, key: u32) -> Option<u32>
-    ensures { Least (λ k. (best ≡ Some k) ⊎ (k ≡ key)) result }
-{
-    match best {
-        Some(old) if old <= key => best,
-        _ => Some(key),
-    }
-}
-
 // The least of the best so far and of a page's keys that are not below a given one.
 fn nearest_on(page: &[u8], counter: u32, least: u32, best: Option<u32>) -> Option<u32>
     ensures { Least (Offered least best (records counter page.now)) result }
 {
-    let mut nearest = best;
-    for record in Records::new(page, counter) {
-        if record.key >= least {
-            nearest = lesser(nearest, record.key);
-        }
-    }
-    nearest
+    Records::new(page, counter)
+        .map(|record| record.key)
+        .filter(|key| *key >= least)
+        .chain(best)
+        .min()
 }
 
 // The least key of all pages that is not below a given one.
