@@ -1,9 +1,7 @@
--- The bytes below a medium: how many pages they have, and bytes put into them.
+-- Bytes put into those below a medium.
 use Rattle.std.specs.Prelude.{ℕ, ◌+◌, ◌-◌, ◌*◌, List, length, fold}
 use Rattle.script.specs.declared.script.Poke.{Poke}
 use Rattle.octets.specs.Parts.{part, patched}
--- how many pages a medium that is named is made over
-pub use Rattle.script.specs.Ranges.{pages_of}
 
 -- the bytes with new ones in place of those from byte i on, as many of them as there is room for
 abbrev pub poked : List ℕ → ℕ → List ℕ → List ℕ

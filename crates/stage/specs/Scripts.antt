@@ -55,7 +55,7 @@ abbrev pub begun : Use → List ℕ → List ℕ
 begun u b = refitted (min (pages_of u.named * 1024) (2 ^ 64 - 1)) (if u.again then b else [])
 
 -- uses one after the other, each over fresh bytes or over some that were left: which these are is not said, since a medium that is
--- passed on by value says nothing of the bytes that were lent to it
+-- passed on by value says nothing of the bytes that were lent to it; so nothing is said of pokes either
 abbrev pub UsesMade : List Use → Slips → Slips → List ℕ → List ℕ → Type 0
 UsesMade [] x y s t = (y ≡ x) × (t ≡ s)
 UsesMade (u ∷ us) x y s t =

@@ -9,7 +9,7 @@ use std::alloc::{AllocError, Global};
 use std::fmt::Display;
 use store::Store;
 
-// The slips that were given so far and the text that was printed.
+// The slips that were given so far, the text that was printed, and where memory comes from.
 pub(super) struct Stage {
     pub(super) slips: Slips,
     pub(super) out: String,

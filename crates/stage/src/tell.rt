@@ -78,7 +78,7 @@ impl fmt::Display for Laid {
     }
 }
 
-// A field of a form outside its range, under a slip that is there or not.
+// A field of a form outside its range, under a slip that is there or not: two facts of a line, neither the other's flag.
 #[derive(Clone, Copy)]
 pub(super) struct Field {
     pub(super) slip: bool,
