@@ -14,7 +14,8 @@ fn key_of(page: &[u8], slot: &Slot) -> u32
     Record::read(page, *slot).key
 }
 
-// Where the slot of a key is among some slots.
+// Where the slot of a key is among some slots. They may come from a page that nobody checked, so their keys need not ascend, and
+// nothing faster than going over them would find it.
 pub(super) fn index_of(page: &[u8], slots: &[Slot], key: u32) -> Option<usize>
     ensures { result ≡ position (λ s. key_of page.now s == key) slots.now }
 {
