@@ -4,12 +4,12 @@ use medium::{Medium, MediumFault, Memory, Trial};
 
 // How many of two writes and a settle are accepted, up to the first that is not.
 fn accepted<M: Medium>(medium: &mut M) -> usize {
-    let answers = [
-        medium.write(0, 0, &[1; 8]),
-        medium.write(1, 4, &[2; 8]),
-        medium.settle(),
-    ];
-    answers.iter().take_while(|answer| answer.is_ok()).count()
+    for (n, (page, at, fill)) in [(0, 0, 1), (1, 4, 2)].into_iter().enumerate() {
+        if medium.write(page, at, &[fill; 8]).is_err() {
+            return n;
+        }
+    }
+    2 + usize::from(medium.settle().is_ok())
 }
 
 // Whether a word of four equal bytes stands at a place.
@@ -110,11 +110,12 @@ fn nine_pages_through_a_holding_layer(rt: HostRuntime) {
     assert!(rt; done.is_ok() && word(left, 0, 9) && word(left, 1024, 0) && word(left, 8192, 0));
 }
 
-// Writes and settles, and counts the pages.
+// Counts the pages, writes and settles.
 fn settle_third<M: Medium>(medium: &mut M) -> Result<usize, MediumFault> {
+    let pages = medium.pages();
     medium.write(2, 4, &[7; 4])?;
     medium.settle()?;
-    Ok(medium.pages())
+    Ok(pages)
 }
 
 // The same through a holding layer over a window onto another holding layer.
