@@ -1,5 +1,5 @@
 // The slips of a use.
-ghost use Rattle.std.specs.Prelude.{◌≡◌, ◌+◌, ◌<◌, ◌≤◌, true, [], ◌∷◌, ◌++◌, length, is_some, Some, None, vec_len, vec_capacity, MatchOption, OnOk, slice_index_or, slice_set};
+ghost use Rattle.std.specs.Prelude.{◌≡◌, ◌+◌, ◌<◌, ◌≤◌, [], ◌∷◌, ◌++◌, length, is_some, Some, None, vec_len, vec_capacity, MatchOption, OnOk, slice_index_or, slice_set};
 ghost use Rattle.std.specs.Option.{option_map};
 ghost use Rattle.store.specs.declared.state.State.TheVariants.{Shut};
 

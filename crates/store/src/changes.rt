@@ -1,5 +1,5 @@
 // The changes of an edit.
-ghost use Rattle.std.specs.Prelude.{◌≡◌, ◌≤◌, false, length, nat_lt};
+ghost use Rattle.std.specs.Prelude.{◌≡◌, false, length, nat_lt};
 ghost use Rattle.draft.specs.Images.{ChangedPage, PutPage, RemovedPage};
 ghost use Rattle.store.specs.Edits.{Edits, page_change};
 
