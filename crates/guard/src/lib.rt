@@ -27,7 +27,7 @@ pub fn changes()
     ensures saves { Saves }
 {}
 
-// The clauses of the three above, once more together: both have callers, and a theorem stays where it was found.
+// The clauses of the three above, once more together: each is public, and its theorems stay where they can be named.
 // How many laws stand here: whatever an open edit has left of a page, word by word, reads as last saved; clearing a number
 // that was never saved keeps what is saved; and what beginning, changing, taking back and saving do to a page's draft. Of taking
 // back there are two clauses, of the header and of the draft: they count as one.
