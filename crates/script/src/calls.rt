@@ -8,13 +8,10 @@ ghost use Rattle.script.specs.Readings.{PlainAt};
 use super::fault::Fault;
 use super::numbers::{hex, number};
 use super::script::Step;
-use super::words::{Words, check_end, next_number, next_word};
+use super::words::{Words, check_end, next_number, next_size, next_word};
 use book::Call;
 use form::{BadField, Cue, Fielded, Item, ItemKind, Still, from_values};
 use std::alloc::Global;
-
-// The most bytes that a work page has.
-const MOST: u32 = 4096;
 
 // A record's value as a line gives it: bytes, or a form's value.
 #[derive(Drop, PartialEq, Eq, Debug)]
@@ -43,12 +40,11 @@ fn field(words: &mut Words, name: &str) -> Result<Option<u32>, Fault>
 fn fields<V: Fielded>(words: &mut Words) -> Result<Result<V, BadField>, Fault>
     ensures { IfOk result (λ made. (numbers : List (Option ℕ)) × Makes V.FIELDS V.values numbers made) }
 {
-    let [first, second, third, fourth] = V::names();
-    let first = field(words, first)?;
-    let second = field(words, second)?;
-    let third = field(words, third)?;
-    let fourth = field(words, fourth)?;
-    Ok(from_values([first, second, third, fourth]))
+    let mut numbers = [None; 4];
+    for (number, name) in numbers.iter_mut().zip(V::names()) {
+        *number = field(words, name)?;
+    }
+    Ok(from_values(numbers))
 }
 
 // A value to the line's end, or a form's field outside its range.
@@ -163,12 +159,8 @@ fn plain(name: &[u8], words: &mut Words) -> Result<Call<Item, ItemKind>, Fault>
 fn work(words: &mut Words) -> Result<Step, Fault>
     ensures { IfOk result (λ s. work_of s ≤ 4096) }
 {
-    let bytes = next_number(words)?;
-    if bytes > MOST {
-        return Err(Fault::Bad);
-    }
     Ok(Step::Work {
-        bytes: bytes as usize,
+        bytes: next_size(words)?,
     })
 }
 

@@ -7,27 +7,13 @@ ghost use Rattle.script.specs.Readings.{LayersAt, SpanAt};
 use super::fault::Fault;
 use super::numbers::pattern;
 use super::script::{Card, Layers, Named, Span};
-use super::words::{Words, check_end, next_number, next_word};
-
-// The most pages that a medium has.
-const MOST: u32 = 4096;
-
-// A count of pages.
-fn pages(words: &mut Words) -> Result<usize, Fault>
-    ensures { IfOk result (λ n. (n ≤ 4096) × (word_number (left_of words.old) ≡ Some n)) }
-{
-    let pages = next_number(words)?;
-    if pages > MOST {
-        return Err(Fault::Bad);
-    }
-    Ok(pages as usize)
-}
+use super::words::{Words, check_end, next_number, next_size, next_word};
 
 // A trial medium, after its name.
 fn card(words: &mut Words) -> Result<Card, Fault>
     ensures { IfOk result (λ c. c.pages ≤ 4096) }
 {
-    let pages = pages(words)?;
+    let pages = next_size(words)?;
     let stop = next_number(words)?;
     let word = next_word(words)?;
     let pattern = pattern(word).ok_or(Fault::Bad)?;
@@ -110,7 +96,7 @@ fn named(words: &mut Words) -> Result<Named, Fault>
 {
     match next_word(words)? {
         b"memory" => Ok(Named::Memory {
-            pages: pages(words)?,
+            pages: next_size(words)?,
         }),
         name => {
             let under = layers(name, words)?;

@@ -1,5 +1,5 @@
 // A text's lines, and a line's words.
-ghost use Rattle.std.specs.Prelude.{◌≡◌, ◌==◌, true, false, not, [], length, position, is_some, Some, None, MatchOption};
+ghost use Rattle.std.specs.Prelude.{◌≡◌, ◌≤◌, ◌==◌, true, false, not, [], length, position, is_some, Some, None, MatchOption, IfOk};
 ghost use Rattle.std.specs.Iterator.{at_most};
 ghost use Rattle.std.specs.Option.{option_map};
 ghost use Rattle.script.specs.Faults.{Read};
@@ -120,6 +120,21 @@ pub fn next_number(words: &mut Words) -> Result<u32, Fault>
 {
     let word = words.next().ok_or(Fault::Bad)?;
     number(word).ok_or(Fault::Bad)
+}
+
+// The most pages that a medium has, and the most bytes of a work page.
+const MOST: u32 = 4096;
+
+// The next word as a number of which a script has no greater one, of pages or of a work page's bytes.
+pub fn next_size(words: &mut Words) -> Result<usize, Fault>
+    ensures number { IfOk result (λ n. (n ≤ 4096) × (word_number (left_of words.old) ≡ Some n)) }
+    ensures left { left_of words.new ≡ after_word (left_of words.old) }
+{
+    let n = next_number(words)?;
+    if n > MOST {
+        return Err(Fault::Bad);
+    }
+    Ok(n as usize)
 }
 
 // That a line ends here.
