@@ -1,5 +1,5 @@
 -- Bit maps: how they grow, and what is read back from them.
-use Rattle.std.specs.Prelude.{◌≡◌, ℕ, zero, suc, ◌+◌, ◌-◌, ◌*◌, ◌/◌, ◌%◌, ◌^◌, ◌<◌, ◌≤◌, Bool, true, false, List, [], ◌∷◌, length, drop, is_some, Some, None, Option, ◌==◌, nat_eq, reverse, refl}
+use Rattle.std.specs.Prelude.{◌≡◌, ℕ, zero, suc, ◌+◌, ◌-◌, ◌*◌, ◌/◌, ◌%◌, ◌^◌, ◌<◌, ◌≤◌, Bool, true, false, List, [], ◌∷◌, length, drop, is_some, Some, None, Option, ◌==◌, nat_eq, slice_index_or, reverse, refl}
 use Rattle.std.proofs.Common.{get_or, sym, ap, subst, ◌∙◌, ⊎_elim, arith, pow-suc, mul_assoc, mul_comm, mul-le-mul_right, div-one, mod-lt, lit<}
 use Rattle.std.proofs.Math.Nat.{pow-le-pow_right, div-add-mod, div-div-eq-div-mul}
 use Rattle.std.proofs.Math.Arith.{digits_div, digits_mod}
@@ -11,6 +11,14 @@ use Rattle.form.specs.Fields.{bit_map}
 pub bit_map_cons : (top : ℕ) (v : Option ℕ) (vs : List (Option ℕ)) → bit_map top (v ∷ vs) ≡ 2 * bit_map top vs + bool_byte (is_some v)
 bit_map_cons top None vs = omega arith
 bit_map_cons top (Some n) vs = omega arith
+
+-- one number more, from the last to the first
+pub bit_map_more : (top : ℕ) (vs : List (Option ℕ)) (bit : ℕ) (d : Option ℕ) → 0 < bit → bit ≤ length vs
+    → 2 * bit_map top (drop bit vs) + bool_byte (is_some (slice_index_or vs (bit - 1) d)) ≡ bit_map top (drop (bit - 1) vs)
+bit_map_more top vs bit d h k =
+    let e : bit - 1 + 1 ≡ bit = omega arith in
+    sym (at_drop_more (bit_map top) vs (bit - 1) d (omega arith) ∙ bit_map_cons top (slice_index_or vs (bit - 1) d) (drop (bit - 1 + 1) vs)
+    ∙ ap (λ n. 2 * bit_map top (drop n vs) + bool_byte (is_some (slice_index_or vs (bit - 1) d))) e)
 
 rest_le : (top i : ℕ) (vs : List (Option ℕ)) → bit_map top (drop i vs) ≤ bit_map top vs
 rest_le top zero vs = omega arith
@@ -26,11 +34,17 @@ bit_map_lt top [] = omega arith
 bit_map_lt top (None ∷ vs) = rw (double (top + 1) (length vs)) (omega (arith, bit_map_lt top vs))
 bit_map_lt top (Some n ∷ vs) = rw (double (top + 1) (length vs)) (omega (arith, bit_map_lt top vs))
 
--- one number more, from the last to the first: the map of the numbers gone through, which fits a byte where the whole does
-pub bit_map_more : (top n : ℕ) (vs : List (Option ℕ)) (k map : ℕ) (v : Option ℕ) → (top + 1) * 2 ^ n ≤ 256 → length vs ≡ n
+-- the map of the last numbers fits a byte where the whole does
+pub bit_map_fits : (top : ℕ) (vs : List (Option ℕ)) (bit n b : ℕ) (d : Option ℕ) (t : Bool) → (top + 1) * 2 ^ length vs ≤ 256 → 0 < bit → bit ≤ length vs
+    → n ≡ bit_map top (drop bit vs) → t ≡ is_some (slice_index_or vs (bit - 1) d) → b ≡ bool_byte t → 2 * n + b < 256
+bit_map_fits top vs bit n b d t room h k is p q =
+    omega (arith, bit_map_more top vs bit d h k, rest_le top (bit - 1) vs, bit_map_lt top vs, q ∙ ap bool_byte p)
+
+-- one turn of the walk from the last number to the first: the map of the numbers gone through, which fits a byte where the whole does
+pub bit_map_turn : (top n : ℕ) (vs : List (Option ℕ)) (k map : ℕ) (v : Option ℕ) → (top + 1) * 2 ^ n ≤ 256 → length vs ≡ n
     → (k < length (reverse vs)) × (v ≡ get_or (reverse vs) k v) → map ≡ bit_map top (drop (length vs - k) vs)
     → (2 * map + bool_byte (is_some v) < 256) × (2 * map + bool_byte (is_some v) ≡ bit_map top (drop (length vs - (k + 1)) vs))
-bit_map_more top n vs k map v room long turn is =
+bit_map_turn top n vs k map v room long turn is =
     let h : k < length vs = omega (arith, turn.0, length-reverse vs) in
     let at : ℕ = length vs - 1 - k in
     let next : at + 1 ≡ length vs - k = omega arith in
