@@ -90,6 +90,12 @@ module _ {V : Type 0} (fs : List Field) (values : V → List (Option ℕ)) (of :
       ap (encoded top fs) (listed.values_of p.0 v p.2) ∙ encoded_decoded top fs b p.0 bytes p.1
 
   -- the value made of the numbers that were read is what the bytes stand for
-  pub read_is : (b : List ℕ) (vs : List (Option ℕ)) (v : V) → decoded top fs b ≡ Ok vs → values v ≡ vs → Ok v ≡ read_as of (decoded top fs b)
-  read_is b vs v e p =
+  pub read_any_is : (b : List ℕ) (vs : List (Option ℕ)) (v : V) → decoded top fs b ≡ Ok vs → values v ≡ vs → Ok v ≡ read_as of (decoded top fs b)
+  read_any_is b vs v e p =
       sym (ap (read_as of) e ∙ ap (λ ws. ok_or (of ws) (record { at = 0 })) (sym p) ∙ ap (λ o. ok_or o (record { at = 0 })) (listed.of_values v))
+
+  -- the value made of the four fields that were read is what the bytes stand for
+  pub read_is : length fs ≡ 4 → (b : List ℕ) (vs : List (Option ℕ)) (v : V) → decoded top fs b ≡ Ok vs → values v ≡ four vs → Ok v ≡ read_as of (decoded top fs b)
+  read_is n b vs v e p =
+      let whole : four vs ≡ vs = four_is vs (sym (fit_length fs vs (decoded_fit top fs b vs e)) ∙ n) in
+      sym (ap (read_as of) e ∙ ap (λ ws. ok_or (of ws) (record { at = 0 })) (sym (p ∙ whole)) ∙ ap (λ o. ok_or o (record { at = 0 })) (listed.of_values v))

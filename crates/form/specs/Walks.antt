@@ -21,6 +21,11 @@ pub at_drops_more : {X Y Z : Type 0} (F : List X → List Y → Z) (xs : List X)
 at_drops_more F xs ys i x y here =
     (λ j. F (drop_more xs i x here.0 j) (drop_more ys i y here.1 j)) ∙ sym (λ j. F (here.2 x j ∷ drop (i + 1) xs) (here.3 y j ∷ drop (i + 1) ys))
 
+-- likewise, by the items themselves, of lists that are as long as one another
+pub at_drops_here : {X Y Z : Type 0} (F : List X → List Y → Z) (xs : List X) (ys : List Y) (i : ℕ) (d : X) (e : Y)
+    → length xs ≡ length ys → i < length ys → F (drop i xs) (drop i ys) ≡ F (slice_index_or xs i d ∷ drop (i + 1) xs) (slice_index_or ys i e ∷ drop (i + 1) ys)
+at_drops_here F xs ys i d e same h = λ j. F (drop_more xs i d (omega arith) j) (drop_more ys i e h j)
+
 -- and at their end
 pub at_drops_all : {X Y Z : Type 0} (F : List X → List Y → Z) (xs : List X) (ys : List Y) (i : ℕ)
     → length xs ≤ i → length ys ≤ i → F (drop i xs) (drop i ys) ≡ F [] []
@@ -34,6 +39,20 @@ lowest_from i (f ∷ fs) (v ∷ vs) = elim (fits f v) as (λ t. cond t (lowest_b
   | true ↦ lowest_from (i + 1) fs vs
   | false ↦ refl
 ]
+
+lowest : (i : ℕ) (f : Field) (fs : List Field) (v : Option ℕ) (vs : List (Option ℕ)) (t : Bool) → t ≡ fits f v
+    → lowest_bad i (f ∷ fs) (v ∷ vs) ≡ cond t (lowest_bad (i + 1) fs vs) (Some i)
+lowest i f fs v vs t e = ap (λ b. cond b (lowest_bad (i + 1) fs vs) (Some i)) (sym e)
+
+-- a number in its range is passed
+pub lowest_passed : (fs : List Field) (vs : List (Option ℕ)) (i : ℕ) (d : Field) (e : Option ℕ) → length fs ≡ length vs → i < length vs
+    → true ≡ fits (slice_index_or fs i d) (slice_index_or vs i e) → lowest_bad i (drop i fs) (drop i vs) ≡ lowest_bad (i + 1) (drop (i + 1) fs) (drop (i + 1) vs)
+lowest_passed fs vs i d e same h fit = at_drops_here (lowest_bad i) fs vs i d e same h ∙ lowest i (slice_index_or fs i d) (drop (i + 1) fs) (slice_index_or vs i e) (drop (i + 1) vs) true fit
+
+-- and one out of it is found
+pub lowest_found : (fs : List Field) (vs : List (Option ℕ)) (i : ℕ) (d : Field) (e : Option ℕ) → length fs ≡ length vs → i < length vs
+    → false ≡ fits (slice_index_or fs i d) (slice_index_or vs i e) → lowest_bad i (drop i fs) (drop i vs) ≡ Some i
+lowest_found fs vs i d e same h fit = at_drops_here (lowest_bad i) fs vs i d e same h ∙ lowest i (slice_index_or fs i d) (drop (i + 1) fs) (slice_index_or vs i e) (drop (i + 1) vs) false fit
 
 -- a field takes four bytes at most
 pub field_le : (f : Field) (v : Option ℕ) → length (field_bytes f v) ≤ 4
