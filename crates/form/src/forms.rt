@@ -1,7 +1,9 @@
 // Several forms at once, told apart by a kind.
-ghost use Rattle.std.specs.Prelude.{◌≡◌, ℕ, ◌≤◌, List, length, Ok, Result};
+ghost use Rattle.std.specs.Prelude.{◌≡◌, ℕ, ◌≤◌, List, length, Ok, Result, refl};
+ghost use Rattle.std.proofs.Common.{sym};
 ghost use Rattle.octets.specs.Parts.{Bytes, patched};
 ghost use Rattle.form.specs.Wraps.{reads_numbered};
+ghost use Rattle.form.specs.Inverses.{ok_same};
 ghost use Rattle.form.specs.declared.form.BadByte.{BadByte};
 
 use super::form::BadByte;
@@ -54,6 +56,21 @@ pub trait Numbered: Sized {
     ghost there: { (k : Self) → numbered (number k) ≡ Ok k };
 
     ghost back: { (n : ℕ) (k : Self) → numbered n ≡ Ok k → number k ≡ n };
+}
+
+// A number is its own kind, so that a family may have numbers for kinds.
+impl Numbered for u8 {
+    ghost number = { λ k. k };
+
+    ghost numbered = { λ n. Ok n };
+
+    ghost there = { λ k. refl };
+
+    ghost back = { λ n k e. sym (ok_same n k e) };
+
+    fn numbered(of: u8) -> Result<u8, BadByte> {
+        Ok(of)
+    }
 }
 
 // Reads bytes as a value of the kind with this number.
