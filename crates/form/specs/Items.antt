@@ -7,7 +7,7 @@ use Rattle.form.specs.declared.item.ItemKind.{ItemKind}
 use Rattle.form.specs.declared.item.ItemKind.TheVariants.{Cue as ACue, Still as AStill}
 use Rattle.form.specs.Cues.{cue_bytes, cue_reads}
 use Rattle.form.specs.Stills.{still_bytes, still_reads}
-use Rattle.form.specs.Wraps.{wrapped}
+use Rattle.form.specs.Wraps.{wrapped, reads_numbered}
 
 -- the kind of an item
 abbrev pub item_kind : Item → ℕ
@@ -55,3 +55,9 @@ item_kind_is (Still s) = refl
 pub item_reads_is : (k : ItemKind) (b : List ℕ) → item_reads (kind_number k) b ≡ item_reads_as k b
 item_reads_is ACue b = refl
 item_reads_is AStill b = refl
+
+-- and under any number as it says, be it a kind's or not
+pub item_numbered_is : (n : ℕ) (b : List ℕ) → reads_numbered kind_numbered item_reads_as n b ≡ item_reads n b
+item_numbered_is zero b = refl
+item_numbered_is (suc zero) b = refl
+item_numbered_is (suc (suc k)) b = refl

@@ -6,6 +6,7 @@ pub mod Ranges
 pub mod Stills
 pub mod Texts
 pub mod Wraps
+pub mod Numbers
 pub mod FormLaws
 pub mod Inverses
 pub mod RoundTrips

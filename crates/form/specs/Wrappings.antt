@@ -9,6 +9,8 @@ use Rattle.either.specs.declared.Either.TheVariants.{Left, Right}
 use Rattle.form.specs.Pairs.{either_kind, either_bytes, either_reads, either_number, either_numbered}
 use Rattle.form.specs.declared.item.ItemKind.TheVariants.{Cue as ACue, Still as AStill}
 use Rattle.form.specs.Items.{kind_number, kind_numbered}
+use Rattle.form.specs.declared.by_number.ByNumber.{ByNumber}
+use Rattle.form.specs.Numbers.{by_number, by_number_kind, by_number_bytes, by_number_reads}
 use Rattle.form.specs.Wraps.{wrapped, reads_as_found, reads_numbered}
 use Rattle.form.specs.Inverses.{ok_same, not_ok}
 
@@ -64,6 +66,16 @@ module _ {A K : Type 0} (kind : A → K) (bytes : A → List ℕ) (reads : K →
   pub numbered_back : Back kind bytes reads → NumberBack number numbered → (n : ℕ) (b : List ℕ) (v : A) → Bytes b → reads_numbered numbered reads n b ≡ Ok v
       → (number (kind v) ≡ n) × (bytes v ≡ b)
   numbered_back back back_number n b v octets e = found_back back back_number n b v (numbered n) refl octets e
+
+  -- the law `there` of the family under the numbers of its kinds
+  pub by_number_there : ((k : K) → numbered (number k) ≡ Ok k) → ((v : A) → reads (kind v) (bytes v) ≡ Ok v) → (v : ByNumber A)
+      → by_number_reads numbered reads (by_number_kind kind number v) (by_number_bytes bytes v) ≡ Ok v
+  by_number_there found there v = ap (wrapped by_number) (numbered_there found there v.0)
+
+  -- and its law `back`
+  pub by_number_back : Back kind bytes reads → NumberBack number numbered → Back (by_number_kind kind number) (by_number_bytes bytes) (by_number_reads numbered reads)
+  by_number_back back back_number n b v octets = wrapped_so by_number (reads_numbered numbered reads n b) v
+      (λ w. (by_number_kind kind number w ≡ n) × (by_number_bytes bytes w ≡ b)) λ x e. numbered_back back back_number n b x octets e
 
 -- an item's kind has the number that it was found by
 pub kind_number_back : NumberBack kind_number kind_numbered

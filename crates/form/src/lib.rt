@@ -1,6 +1,7 @@
 // Record forms: how values are put down as bytes, and read again.
 #![tactic(auto)]
 
+mod by_number;
 mod cue;
 mod cues;
 mod field;
@@ -14,6 +15,7 @@ mod still;
 mod stills;
 mod walk;
 
+pub use by_number::ByNumber;
 pub use cue::Cue;
 pub use either::Either;
 pub use field::Field;
