@@ -58,6 +58,8 @@ pub enum Step {
     Work { bytes: usize },
     Lay { pages: usize },
     Call { call: Call<Item, ItemKind> },
+    // a look under the form whose kind has a number; no line asks for a number that is no kind's, but a script made by hand may
+    LookNumbered { key: u32, number: u8 },
     // a put or change under a form with a field outside its range: the slip, and the lowest bit of such a field
     BadField { slip: usize, bit: usize },
     Ask,

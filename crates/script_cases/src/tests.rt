@@ -2,6 +2,7 @@
 use book::Call;
 use form::{Cue, Item, ItemKind, Still};
 use script::{Card, Layers, Named, Poke, Script, Span, Step, Use, parse};
+use stage::perform;
 use std::process::Abort;
 use std::test::*;
 
@@ -334,4 +335,24 @@ fn what_a_bad_line_drops(rt: HostRuntime) -> Result<(), Fail> {
         Some(3),
     )?;
     says(&rt, b"use memory 4\nopen\nuses memory 4\n", 0, Some(3))
+}
+
+// A number that is no kind's is asked for like any other: the store's refusals come first, then byte 0 is bad.
+#[test]
+fn looks_under_numbers(rt: HostRuntime) -> Result<(), Fail> {
+    let mut script = read(
+        &rt,
+        b"use memory 2\nlay 2\nopen\nbegin\nput 0 7 cue level=5\nsave 0\n",
+    )?;
+    let only = script.uses.last_mut().ok_or_else(|| Fail::new("no use"))?;
+    for (key, number) in [(7, 0), (7, 1), (7, 9), (8, 9)] {
+        only.steps.push(Step::LookNumbered { key, number })?;
+    }
+    let mut out = String::new(rt.alloc());
+    perform(&script, &mut out, rt.alloc())?;
+    let told = out.as_str();
+    assert!(rt;
+        told.ends_with("ok cue level=5\nrefused 16 key 7 page 1 byte 0\nrefused 16 key 7 page 1 byte 0\nrefused 13 key 8\n")
+    );
+    Ok(())
 }

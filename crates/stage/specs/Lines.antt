@@ -4,6 +4,7 @@ use Rattle.book.specs.declared.call.Denied.{Denied}
 use Rattle.book.specs.Lines.{denied_line}
 use Rattle.book.specs.declared.call.Done.{Done}
 use Rattle.book.specs.declared.call.Done.TheVariants.{Opened, Begun, Changed, Looked, Key, Saved, Abandoned, Value}
+use Rattle.form.specs.declared.by_number.ByNumber.{ByNumber}
 use Rattle.form.specs.declared.item.Item.{Item}
 use Rattle.form.specs.Texts.{item_text}
 use Rattle.medium.specs.declared.fault.MediumFault.{MediumFault}
@@ -32,6 +33,22 @@ done_line work (Value item) = item_line item
 abbrev pub answer_line : List ℕ → Result (Done Item) Denied → List ℕ
 answer_line work (Ok done) = done_line work done
 answer_line work (Err denied) = denied_line denied
+
+-- what a call accepted under numbers answered, its value by itself
+abbrev pub plain_done : Done (ByNumber Item) → Done Item
+plain_done (Opened o) = Opened o
+plain_done (Begun slip number) = Begun slip number
+plain_done Changed = Changed
+plain_done (Looked place) = Looked place
+plain_done (Key key) = Key key
+plain_done (Saved counter changes) = Saved counter changes
+plain_done Abandoned = Abandoned
+plain_done (Value item) = Value item.0
+
+-- and so what a call answered
+abbrev pub plain : Result (Done (ByNumber Item)) Denied → Result (Done Item) Denied
+plain (Ok done) = Ok (plain_done done)
+plain (Err denied) = Err denied
 
 -- what laying a file answered
 abbrev pub laid_line : Result (Unit {0}) Refusal → List ℕ

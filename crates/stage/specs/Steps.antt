@@ -4,16 +4,19 @@ use Rattle.medium.specs.declared.fault.MediumFault.{MediumFault}
 use Rattle.medium.specs.Meaning.{Meaning, Read}
 use Rattle.form.specs.declared.item.Item.{Item}
 use Rattle.form.specs.declared.item.ItemKind.{ItemKind}
-use Rattle.form.specs.Items.{item_bytes, item_reads_as}
+use Rattle.form.specs.Items.{item_bytes, item_reads_as, kind_numbered}
+use Rattle.form.specs.Numbers.{by_number_bytes, by_number_reads}
+use Rattle.form.specs.declared.by_number.ByNumber.{ByNumber}
 use Rattle.store.specs.declared.refusal.Refusal.{Refusal}
 use Rattle.store.specs.declared.store.Store.{Store}
 use Rattle.store.specs.Lays.{Lays}
 use Rattle.book.specs.declared.call.Call.{Call}
+use Rattle.book.specs.declared.call.Call.TheVariants.{LookForm}
 use Rattle.book.specs.declared.slips.Slips.{Slips}
 use Rattle.book.specs.Uses.{Answer, Makes, Moment, moment, slip_at}
 use Rattle.script.specs.declared.script.Step.{Step}
-use Rattle.script.specs.declared.script.Step.TheVariants.{Work, Lay, Call as ACall, BadField, Ask, DumpWork, DumpPage}
-use Rattle.stage.specs.Lines.{answer_line, asked_line, bytes_line, field_line, laid_line, medium_line}
+use Rattle.script.specs.declared.script.Step.TheVariants.{Work, Lay, Call as ACall, LookNumbered, BadField, Ask, DumpWork, DumpPage}
+use Rattle.stage.specs.Lines.{answer_line, asked_line, bytes_line, field_line, laid_line, medium_line, plain}
 
 -- a text with a line more
 abbrev pub with_line : List ℕ → List ℕ → List ℕ
@@ -27,6 +30,13 @@ with_bad text (Some n) = with_line text (codes "bad line " ++ decimal n)
 -- a call is made as the store promises, and its answer told
 abbrev pub CallMade : {M : Type 0} → (M → Meaning) → Call Item ItemKind → Moment M → Moment M → List ℕ → List ℕ → Type 0
 CallMade meaning call a b s t = (r : Answer Item) × Makes meaning item_bytes item_reads_as call r a b × (t ≡ with_line s (answer_line b.work r))
+
+-- a call under numbers of kinds is made, likewise
+abbrev pub NumberedMade : {M : Type 0} → (M → Meaning) → Call (ByNumber Item) ℕ → Moment M → Moment M → List ℕ → List ℕ → Type 0
+NumberedMade meaning call a b s t =
+    (r : Answer (ByNumber Item))
+    × Makes meaning (by_number_bytes item_bytes) (by_number_reads kind_numbered item_reads_as) call r a b
+    × (t ≡ with_line s (answer_line b.work (plain r)))
 
 -- a file is laid, and what came of it told
 abbrev pub LayMade : {M : Type 0} → (M → Meaning) → ℕ → Moment M → Moment M → List ℕ → List ℕ → Type 0
@@ -45,6 +55,7 @@ abbrev pub StepMade : {M : Type 0} → (M → Meaning) → Step → Moment M →
 StepMade meaning (Work n) a b s t = (b.store ≡ a.store) × (b.slips ≡ a.slips) × (b.work ≡ replicate n 0) × (t ≡ s)
 StepMade meaning (Lay pages) a b s t = LayMade meaning pages a b s t
 StepMade meaning (ACall call) a b s t = CallMade meaning call a b s t
+StepMade meaning (LookNumbered key number) a b s t = NumberedMade meaning (LookForm key number) a b s t
 StepMade meaning (BadField slip bit) a b s t = (b ≡ a) × (t ≡ with_line s (field_line (is_some (slip_at a slip)) bit))
 StepMade meaning Ask a b s t = (b ≡ a) × (t ≡ with_line s (asked_line (meaning a.store.medium).pages (meaning a.store.medium).stopped))
 StepMade meaning DumpWork a b s t = (b ≡ a) × (t ≡ with_line s (bytes_line a.work (Ok tt)))

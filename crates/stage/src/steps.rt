@@ -1,13 +1,14 @@
 // Making the steps of a use on a store.
 ghost use Rattle.std.specs.Prelude.{◌≡◌, string_bytes, OnOk};
 ghost use Rattle.book.specs.Uses.{moment};
+ghost use Rattle.book.specs.declared.call.Call.TheVariants.{LookForm};
 ghost use Rattle.stage.specs.Lines.{asked_line, medium_line};
-ghost use Rattle.stage.specs.Steps.{CallMade, LayMade, PageTold, StepMade, UseMade, with_line};
+ghost use Rattle.stage.specs.Steps.{CallMade, LayMade, NumberedMade, PageTold, StepMade, UseMade, with_line};
 
 use super::stage::Stage;
-use super::tell::{Answer, Dump, Field, Laid};
+use super::tell::{Answer, Dump, Field, Laid, plain};
 use book::{Call, run};
-use form::{Forms, Item, ItemKind};
+use form::{ByNumber, Forms, Item, ItemKind};
 use medium::Medium;
 use script::Step;
 use std::alloc::AllocError;
@@ -27,6 +28,34 @@ impl Stage {
         let answers = run(store, &mut self.slips, work, from_ref(call), self.heap)?;
         let answer = &answers[0];
         self.tell(Answer { answer, work })
+    }
+
+    // Makes a call under numbers of kinds, and tells what it answers.
+    fn make_numbered<M: Medium>(
+        &mut self,
+        store: &mut Store<M>,
+        work: &mut [u8],
+        call: &Call<ByNumber<Item>, u8>,
+    ) -> Result<(), AllocError>
+        ensures { OnOk result (NumberedMade M.Medium.meaning call.now (moment store.old self.old.slips work.old) (moment store.new self.new.slips work.new) (string_bytes self.old.out) (string_bytes self.new.out)) }
+    {
+        let answers = run(store, &mut self.slips, work, from_ref(call), self.heap)?;
+        let answer = &plain(&answers[0]);
+        self.tell(Answer { answer, work })
+    }
+
+    // Looks under the form whose kind has a number, and tells what that answers.
+    fn look_numbered<M: Medium>(
+        &mut self,
+        store: &mut Store<M>,
+        work: &mut [u8],
+        key: u32,
+        number: u8,
+    ) -> Result<(), AllocError>
+        ensures { OnOk result (NumberedMade M.Medium.meaning (LookForm key number) (moment store.old self.old.slips work.old) (moment store.new self.new.slips work.new) (string_bytes self.old.out) (string_bytes self.new.out)) }
+    {
+        let call = Call::LookForm { key, kind: number };
+        self.make_numbered(store, work, &call)
     }
 
     // Lays a file, and tells what came of it.
@@ -80,6 +109,9 @@ impl Stage {
             }
             Step::Lay { pages } => self.make_lay(store, work.as_mut_slice(), *pages),
             Step::Call { call } => self.make_call(store, work.as_mut_slice(), call),
+            Step::LookNumbered { key, number } => {
+                self.look_numbered(store, work.as_mut_slice(), *key, *number)
+            }
             Step::BadField { slip, bit } => {
                 let slip = self.slips.has(*slip);
                 self.tell(Field { slip, bit: *bit })

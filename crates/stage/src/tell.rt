@@ -1,9 +1,9 @@
 // What is printed for each call.
-ghost use Rattle.std.specs.Prelude.{Some};
-ghost use Rattle.stage.specs.Lines.{answer_line, bytes_line, done_line, field_line, laid_line};
+ghost use Rattle.std.specs.Prelude.{◌≡◌, Some};
+ghost use Rattle.stage.specs.Lines.{answer_line, bytes_line, done_line, field_line, laid_line, plain, plain_done};
 
 use book::{Denied, Done};
-use form::Item;
+use form::{ByNumber, Item};
 use medium::MediumFault;
 use std::fmt;
 use store::{Refusal, value_at};
@@ -60,6 +60,38 @@ impl fmt::Display for Answer<'_> {
             Ok(done) => write!(f, "{}", Accepted { done, work }),
             Err(denied) => write!(f, "{denied}"),
         }
+    }
+}
+
+// What a call accepted under numbers answered, its value by itself.
+fn plain_done(done: &Done<ByNumber<Item>>) -> Done<Item>
+    ensures { result ≡ plain_done done.now }
+{
+    match done {
+        Done::Opened { opened } => Done::Opened { opened: *opened },
+        Done::Begun { slip, number } => Done::Begun {
+            slip: *slip,
+            number: *number,
+        },
+        Done::Changed => Done::Changed,
+        Done::Looked { place } => Done::Looked { place: *place },
+        Done::Key { key } => Done::Key { key: *key },
+        Done::Saved { counter, changes } => Done::Saved {
+            counter: *counter,
+            changes: *changes,
+        },
+        Done::Abandoned => Done::Abandoned,
+        Done::Value { value } => Done::Value { value: value.0 },
+    }
+}
+
+// And so what a call answered.
+pub(super) fn plain(answer: &Result<Done<ByNumber<Item>>, Denied>) -> Result<Done<Item>, Denied>
+    ensures { result ≡ plain answer.now }
+{
+    match answer {
+        Ok(done) => Ok(plain_done(done)),
+        Err(denied) => Err(*denied),
     }
 }
 
