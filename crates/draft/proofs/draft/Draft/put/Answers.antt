@@ -9,12 +9,12 @@ use Rattle.draft.proofs.draft.Draft.put.Goals as goal
 pub returns-then-is_some : goal.returns-then-is_some
 returns-then-is_some c =
     let f = found_in c.args.page.now c.args.key (draft_slots c.args.self.counter c.args.page.now) c.deref.result.now c.index_of.result c.index_of.result
-    (c.deref.ensures.0 ∙ c.load-slots.ensures) c.index_of.ensures refl in
+    (c.deref.ensures.0 ∙ c.load.ensures) c.index_of.ensures refl in
     (is_there c.args.page.now c.args.key (draft_slots c.args.self.counter c.args.page.now) c.index_of.result (sym c.is_some.ensures ∙ c.if-is_some.true) f, refl)
 
 pub returns : goal.returns
 returns c =
-    let e = c.load-slots.ensures in
+    let e = c.load.ensures in
     let n : c.index_of.result ≡ None = grind arith in
     let f = found_in c.args.page.now c.args.key (draft_slots c.args.self.counter c.args.page.now) c.deref.result.now c.index_of.result None
     (c.deref.ensures.0 ∙ e) c.index_of.ensures n in

@@ -1,6 +1,6 @@
 use Rattle.std.proofs.Common.{arith}
 use Rattle.draft.proofs.Loaded.{header_done, header_more}
-use Rattle.draft.proofs.load.first_slots.Goals as goal
+use Rattle.draft.proofs.load.fill.Goals as goal
 
 pub loop-k-preserved : goal.loop-k-preserved
 loop-k-preserved c = record {
