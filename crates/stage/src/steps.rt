@@ -134,7 +134,9 @@ impl Stage {
         writeln!(self.out, "medium {pages} pages")
     }
 
-    // Makes the steps of a use, one after the other, with a new work page.
+    // Makes the steps of a use, one after the other, with a new work page. It stays a function of its own: inlined where layers
+    // are laid and taken off, it makes that code so long that the compiler no longer leaves out the moves of a layer's images.
+    #[inline(never)]
     pub(super) fn make_steps<M: Medium>(
         &mut self,
         store: &mut Store<M>,
