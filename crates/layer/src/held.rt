@@ -1,7 +1,8 @@
 // A page image that a layer holds.
-ghost use Rattle.std.specs.Prelude.{◌≡◌, ◌+◌, ◌≤◌, length, replicate};
+ghost use Rattle.std.specs.Prelude.{◌≡◌, ◌+◌, ◌<◌, ◌≤◌, length, drop, replicate};
 ghost use Rattle.octets.specs.Parts.{part, patched};
 
+use arrayvec::ArrayVec;
 use octets::patch;
 
 // A page of which the image is held here: it is what is shown of the page, and not yet below.
@@ -26,6 +27,7 @@ impl Default for Held {
 
 impl Held {
     // Copies the bytes of the image from `at` on into `out`.
+    #[inline]
     pub(super) fn copy(&self, at: usize, out: &mut [u8])
         requires { at + length out.old ≤ 1024 }
         ensures { out.new ≡ part self.now.image at (length out.old) }
@@ -34,6 +36,7 @@ impl Held {
     }
 
     // Puts bytes in place of those of the image from `at` on.
+    #[inline]
     pub(super) fn patch(&mut self, at: usize, bytes: &[u8])
         requires { at + length bytes.now ≤ 1024 }
         ensures page { self.new.page ≡ self.old.page }
@@ -41,4 +44,14 @@ impl Held {
     {
         patch(&mut self.image, at, bytes);
     }
+}
+
+// The first image is held no longer, and the others move down, once.
+pub(super) fn drop_oldest(held: &mut ArrayVec<Held, 8>)
+    requires { 0 < length held.old.items }
+    ensures { held.new.items ≡ drop 1 held.old.items }
+{
+    let len = held.len();
+    held.as_mut_slice().copy_within(1..len, 0);
+    held.truncate(len - 1);
 }

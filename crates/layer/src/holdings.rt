@@ -6,10 +6,11 @@ ghost use Rattle.layer.specs.Below.{Drains, Evicts, Flushed, HoldingCuts, Landed
 ghost use Rattle.layer.specs.Distinct.{look};
 ghost use Rattle.layer.specs.Holds.{Placed, Runs, holds_sized, image_of, images, layered, over_shows};
 
-use super::held::Held;
+use super::held::{Held, drop_oldest};
 use super::holding::Holding;
 use arrayvec::ArrayVec;
 use medium::{Cut, Medium, MediumFault};
+use octets::patch;
 
 impl<M: Medium> Holding<M> {
     // A medium with nothing held over it.
@@ -31,6 +32,7 @@ impl<M: Medium> Holding<M> {
     }
 
     // Where a page is held.
+    #[inline]
     fn find(&self, page: usize) -> Option<usize>
         ensures { Placed (images self.now) page result }
     {
@@ -43,11 +45,11 @@ impl<M: Medium> Holding<M> {
         requires runs { Runs M.Medium.meaning self.old }
         ensures { Evicts M.Medium.meaning (images self.old) self.old.medium (images self.new) self.new.medium result }
     {
-        let oldest = self.held[0];
+        let oldest = &self.held[0];
         if oldest.page < self.medium.pages() {
             self.medium.write(oldest.page, 0, &oldest.image)?;
         }
-        self.held.remove(0);
+        drop_oldest(&mut self.held);
         Ok(())
     }
 
@@ -84,6 +86,7 @@ impl<M: Medium> Holding<M> {
     }
 
     // Holds a page that is not held yet, with a run put in. It is fetched before another goes below.
+    #[inline(never)]
     fn hold(&mut self, page: usize, at: usize, bytes: &[u8]) -> Result<(), MediumFault>
         requires good { good (M.Medium.meaning self.old.medium).pages page at (length bytes.now) ≡ true }
         requires runs { Runs M.Medium.meaning self.old }
@@ -93,9 +96,8 @@ impl<M: Medium> Holding<M> {
         let mut image = [0; 1024];
         self.medium.read(page, 0, &mut image)?;
         self.make_room()?;
-        let mut held = Held { page, image };
-        held.patch(at, bytes);
-        self.held.push(held);
+        patch(&mut image, at, bytes);
+        self.held.push(Held { page, image });
         Ok(())
     }
 }
@@ -115,6 +117,7 @@ impl<M: Medium> Medium for Holding<M> {
         self.medium.stopped()
     }
 
+    #[inline]
     fn read(&self, page: usize, at: usize, out: &mut [u8]) -> Result<(), MediumFault> {
         self.admit(page, at, out.len())?;
         match self.find(page) {
@@ -126,6 +129,7 @@ impl<M: Medium> Medium for Holding<M> {
         }
     }
 
+    #[inline]
     fn write(&mut self, page: usize, at: usize, bytes: &[u8]) -> Result<(), MediumFault>
         ensures wrote { Wrote (layered M.Medium.meaning self.old) (layered M.Medium.meaning self.new) page at bytes.now result }
         ensures below { Puts M.Medium.meaning (images self.old) self.old.medium (images self.new) self.new.medium page at bytes.now result }
