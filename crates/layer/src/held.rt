@@ -1,5 +1,5 @@
 // A page image that a layer holds.
-ghost use Rattle.std.specs.Prelude.{◌≡◌, ◌+◌, ◌<◌, ◌≤◌, length, drop, replicate};
+ghost use Rattle.std.specs.Prelude.{◌≡◌, ◌+◌, ◌≤◌, [], length, drop, replicate};
 ghost use Rattle.octets.specs.Parts.{part, patched};
 
 use arrayvec::ArrayVec;
@@ -46,12 +46,21 @@ impl Held {
     }
 }
 
-// The first image is held no longer, and the others move down, once.
-pub(super) fn drop_oldest(held: &mut ArrayVec<Held, 8>)
-    requires { 0 < length held.old.items }
-    ensures { held.new.items ≡ drop 1 held.old.items }
+// The first n images are held no longer, and the others move down, once.
+pub(super) fn drop_first(held: &mut ArrayVec<Held, 8>, n: usize)
+    requires { n ≤ length held.old.items }
+    ensures { held.new.items ≡ drop n held.old.items }
 {
     let len = held.len();
-    held.as_mut_slice().copy_within(1..len, 0);
-    held.truncate(len - 1);
+    held.as_mut_slice().copy_within(n..len, 0);
+    held.truncate(len - n);
+}
+
+// No image is held any longer.
+pub(super) fn drop_all(held: &mut ArrayVec<Held, 8>)
+    ensures { held.new.items ≡ [] }
+{
+    while held.pop().is_some() {
+        // a blank each, where `clear` fills all their places in one long run
+    }
 }

@@ -2,11 +2,11 @@
 ghost use Rattle.std.specs.Prelude.{◌≡◌, ◌<◌, true, [], length, None, OnOk, nat_lt};
 ghost use Rattle.medium.specs.Cuts.{CutMedium};
 ghost use Rattle.medium.specs.Meaning.{Settled, Wrote, good};
-ghost use Rattle.layer.specs.Below.{Drains, Evicts, Flushed, HoldingCuts, Landed, MadeRoom, Puts};
+ghost use Rattle.layer.specs.Below.{Drains, Evicts, Flushed, HoldingCuts, Landed, Lowers, MadeRoom, Puts};
 ghost use Rattle.layer.specs.Distinct.{look};
 ghost use Rattle.layer.specs.Holds.{Placed, Runs, holds_sized, image_of, images, layered, over_shows};
 
-use super::held::{Held, drop_oldest};
+use super::held::{Held, drop_all, drop_first};
 use super::holding::Holding;
 use arrayvec::ArrayVec;
 use medium::{Cut, Medium, MediumFault};
@@ -39,28 +39,43 @@ impl<M: Medium> Holding<M> {
         self.held.iter().position(|h| h.page == page)
     }
 
+    // Image i goes below, and is held still.
+    fn lower(&mut self, i: usize) -> Result<(), MediumFault>
+        requires some { i < length (images self.old) }
+        requires runs { Runs M.Medium.meaning self.old }
+        ensures held { images self.new ≡ images self.old }
+        ensures lowers { Lowers M.Medium.meaning (images self.old) i self.old.medium self.new.medium result }
+    {
+        let held = &self.held[i];
+        if held.page < self.medium.pages() {
+            self.medium.write(held.page, 0, &held.image)?;
+        }
+        Ok(())
+    }
+
     // The image that is held longest goes below.
     fn evict(&mut self) -> Result<(), MediumFault>
         requires some { 0 < length (images self.old) }
         requires runs { Runs M.Medium.meaning self.old }
         ensures { Evicts M.Medium.meaning (images self.old) self.old.medium (images self.new) self.new.medium result }
     {
-        let oldest = &self.held[0];
-        if oldest.page < self.medium.pages() {
-            self.medium.write(oldest.page, 0, &oldest.image)?;
-        }
-        drop_oldest(&mut self.held);
+        self.lower(0)?;
+        drop_first(&mut self.held, 1);
         Ok(())
     }
 
-    // All images go below, the one held longest first.
+    // All images go below, the one held longest first. What went below is dropped in the end, so that the others move once.
     fn flush(&mut self) -> Result<(), MediumFault>
         requires { Runs M.Medium.meaning self.old }
         ensures { Flushed M.Medium.meaning (images self.old) self.old.medium (images self.new) self.new.medium result }
     {
-        while !self.held.is_empty() {
-            self.evict()?;
+        for i in 0..self.held.len() {
+            if let Err(fault) = self.lower(i) {
+                drop_first(&mut self.held, i);
+                return Err(fault);
+            }
         }
+        drop_all(&mut self.held);
         Ok(())
     }
 
