@@ -1,4 +1,5 @@
 pub mod Descents
 pub mod Images
+pub mod Lowering
 pub mod Overlays
 pub mod Rooms

@@ -1,5 +1,5 @@
 -- What a holding layer does to the medium below.
-use Rattle.std.specs.Prelude.{◌≡◌, ℕ, ◌<◌, Bool, false, ◌||◌, ◌⊎◌, List, [], ◌∷◌, length, is_some, Ok, Err, MatchBool, Result, nat_lt}
+use Rattle.std.specs.Prelude.{◌≡◌, ℕ, ◌<◌, Bool, false, ◌||◌, ◌⊎◌, List, [], ◌∷◌, length, is_some, Ok, Err, MatchBool, Result, nat_lt, slice_index_or}
 use Rattle.octets.specs.Parts.{patched}
 use Rattle.medium.specs.declared.fault.MediumFault.{MediumFault}
 use Rattle.medium.specs.declared.fault.MediumFault.TheVariants.{BadRun, Stopped}
@@ -17,6 +17,11 @@ Went meaning h a b = MatchBool (nat_lt h.page (meaning a).pages) (Wrote (meaning
 -- the medium stops as an image goes below
 abbrev pub Stuck : {M : Type 0} → (M → Meaning) → Held → M → M → Type 0
 Stuck meaning h a b = ((meaning a).stopped ≡ false) × Wrote (meaning a) (meaning b) h.page 0 h.image (Err Stopped)
+
+-- image i goes below, or the medium stops as it does
+abbrev pub Lowers : {M : Type 0} → (M → Meaning) → List Held → ℕ → M → M → Result (Unit {0}) MediumFault → Type 0
+Lowers meaning hs i a b (Ok _) = (h : Held) × (h ≡ slice_index_or hs i h) × Went meaning h a b
+Lowers meaning hs i a b (Err e) = (h : Held) × (h ≡ slice_index_or hs i h) × (e ≡ Stopped) × Stuck meaning h a b
 
 -- the image held longest goes below, and is then held no longer; where the medium stops, all are still held
 abbrev pub Evicts : {M : Type 0} → (M → Meaning) → List Held → M → List Held → M → Result (Unit {0}) MediumFault → Type 0

@@ -2,14 +2,15 @@
 ghost use Rattle.std.specs.Prelude.{◌≡◌, ◌<◌, true, [], length, None, OnOk, nat_lt};
 ghost use Rattle.medium.specs.Cuts.{CutMedium};
 ghost use Rattle.medium.specs.Meaning.{Settled, Wrote, good};
-ghost use Rattle.layer.specs.Below.{Drains, Evicts, Flushed, HoldingCuts, Landed, MadeRoom, Puts};
+ghost use Rattle.layer.specs.Below.{Drains, Evicts, Flushed, HoldingCuts, Landed, Lowers, MadeRoom, Puts};
 ghost use Rattle.layer.specs.Distinct.{look};
 ghost use Rattle.layer.specs.Holds.{Placed, Runs, holds_sized, image_of, images, layered, over_shows};
 
-use super::held::Held;
+use super::held::{Held, drop_all, drop_first};
 use super::holding::Holding;
 use arrayvec::ArrayVec;
 use medium::{Cut, Medium, MediumFault};
+use octets::patch;
 
 impl<M: Medium> Holding<M> {
     // A medium with nothing held over it.
@@ -31,10 +32,25 @@ impl<M: Medium> Holding<M> {
     }
 
     // Where a page is held.
+    #[inline]
     fn find(&self, page: usize) -> Option<usize>
         ensures { Placed (images self.now) page result }
     {
         self.held.iter().position(|h| h.page == page)
+    }
+
+    // Image i goes below, and is held still.
+    fn lower(&mut self, i: usize) -> Result<(), MediumFault>
+        requires some { i < length (images self.old) }
+        requires runs { Runs M.Medium.meaning self.old }
+        ensures held { images self.new ≡ images self.old }
+        ensures lowers { Lowers M.Medium.meaning (images self.old) i self.old.medium self.new.medium result }
+    {
+        let held = &self.held[i];
+        if held.page < self.medium.pages() {
+            self.medium.write(held.page, 0, &held.image)?;
+        }
+        Ok(())
     }
 
     // The image that is held longest goes below.
@@ -43,22 +59,23 @@ impl<M: Medium> Holding<M> {
         requires runs { Runs M.Medium.meaning self.old }
         ensures { Evicts M.Medium.meaning (images self.old) self.old.medium (images self.new) self.new.medium result }
     {
-        let oldest = self.held[0];
-        if oldest.page < self.medium.pages() {
-            self.medium.write(oldest.page, 0, &oldest.image)?;
-        }
-        self.held.remove(0);
+        self.lower(0)?;
+        drop_first(&mut self.held, 1);
         Ok(())
     }
 
-    // All images go below, the one held longest first.
+    // All images go below, the one held longest first. What went below is dropped in the end, so that the others move once.
     fn flush(&mut self) -> Result<(), MediumFault>
         requires { Runs M.Medium.meaning self.old }
         ensures { Flushed M.Medium.meaning (images self.old) self.old.medium (images self.new) self.new.medium result }
     {
-        while !self.held.is_empty() {
-            self.evict()?;
+        for i in 0..self.held.len() {
+            if let Err(fault) = self.lower(i) {
+                drop_first(&mut self.held, i);
+                return Err(fault);
+            }
         }
+        drop_all(&mut self.held);
         Ok(())
     }
 
@@ -84,6 +101,7 @@ impl<M: Medium> Holding<M> {
     }
 
     // Holds a page that is not held yet, with a run put in. It is fetched before another goes below.
+    #[inline(never)]
     fn hold(&mut self, page: usize, at: usize, bytes: &[u8]) -> Result<(), MediumFault>
         requires good { good (M.Medium.meaning self.old.medium).pages page at (length bytes.now) ≡ true }
         requires runs { Runs M.Medium.meaning self.old }
@@ -93,9 +111,8 @@ impl<M: Medium> Holding<M> {
         let mut image = [0; 1024];
         self.medium.read(page, 0, &mut image)?;
         self.make_room()?;
-        let mut held = Held { page, image };
-        held.patch(at, bytes);
-        self.held.push(held);
+        patch(&mut image, at, bytes);
+        self.held.push(Held { page, image });
         Ok(())
     }
 }
@@ -115,6 +132,7 @@ impl<M: Medium> Medium for Holding<M> {
         self.medium.stopped()
     }
 
+    #[inline]
     fn read(&self, page: usize, at: usize, out: &mut [u8]) -> Result<(), MediumFault> {
         self.admit(page, at, out.len())?;
         match self.find(page) {
@@ -126,6 +144,7 @@ impl<M: Medium> Medium for Holding<M> {
         }
     }
 
+    #[inline]
     fn write(&mut self, page: usize, at: usize, bytes: &[u8]) -> Result<(), MediumFault>
         ensures wrote { Wrote (layered M.Medium.meaning self.old) (layered M.Medium.meaning self.new) page at bytes.now result }
         ensures below { Puts M.Medium.meaning (images self.old) self.old.medium (images self.new) self.new.medium page at bytes.now result }

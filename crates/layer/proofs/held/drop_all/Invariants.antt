@@ -1,0 +1,5 @@
+use Rattle.std.proofs.Common.{length}
+use Rattle.layer.proofs.held.drop_all.Given as goal
+
+abbrev pub decreases-loop : goal.decreases-loop
+decreases-loop l = length l.held.items
