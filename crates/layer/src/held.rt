@@ -47,7 +47,7 @@ impl Held {
 }
 
 // The first n images are held no longer, and the others move down, once.
-pub(super) fn drop_first(held: &mut ArrayVec<Held, 8>, n: usize)
+pub(super) fn drop_first<const CAP: usize>(held: &mut ArrayVec<Held, CAP>, n: usize)
     requires { n ≤ length held.old.items }
     ensures { held.new.items ≡ drop n held.old.items }
 {
@@ -57,7 +57,7 @@ pub(super) fn drop_first(held: &mut ArrayVec<Held, 8>, n: usize)
 }
 
 // No image is held any longer.
-pub(super) fn drop_all(held: &mut ArrayVec<Held, 8>)
+pub(super) fn drop_all<const CAP: usize>(held: &mut ArrayVec<Held, CAP>)
     ensures { held.new.items ≡ [] }
 {
     while held.pop().is_some() {

@@ -6,7 +6,7 @@ use Rattle.arrayvec.proofs.ArrayVecLemmas.{items-with_items}
 use Rattle.layer.proofs.held.drop_first.Goals as goal
 
 pub returns : goal.returns
-returns c =
+returns g c =
     let all = c.as_mut_slice.result.now in
     let left = c.len-len.result - c.args.n in
     let long : length all ≡ c.len-len.result = search rules in
