@@ -352,7 +352,9 @@ fn looks_under_numbers(rt: HostRuntime) -> Result<(), Fail> {
     perform(&script, &mut out, rt.alloc())?;
     let told = out.as_str();
     assert!(rt;
-        told.ends_with("ok cue level=5\nrefused 16 key 7 page 1 byte 0\nrefused 16 key 7 page 1 byte 0\nrefused 13 key 8\n")
+        told.ends_with(
+            "ok cue level=5\nrefused 16 key 7 page 1 byte 0\nrefused 16 key 7 page 1 byte 0\nrefused 13 key 8\n"
+        )
     );
     Ok(())
 }
